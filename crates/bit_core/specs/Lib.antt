@@ -1,0 +1,3 @@
+pub mod Plain
+pub mod Trim
+pub mod Faults

@@ -1,0 +1,30 @@
+ghost use Rattle.std.specs.Prelude.{◌≡◌, ◌≤◌, ◌<◌, ◌^◌, IfOk, OnErr};
+ghost use Rattle.layout.specs.Reading.{Gives, Reads};
+ghost use Rattle.bit_core.specs.Plain.{bits, bit};
+
+use crate::faults::Short;
+use crate::reader::BitReader;
+
+/// Takes a number of at most 8 bits.
+pub fn small(reader: &mut BitReader, n: u32) -> Result<u8, Short>
+    requires { n ≤ 8 }
+    ensures below { IfOk result (λ v. v < 2 ^ n) }
+    ensures reads { Reads (bits n) reader.old reader.new result }
+
+    // For the proofs of the readers above.
+    ensures exact { Gives (bits n) reader.old reader.new result }
+{
+    let value = reader.take(n)?;
+    Ok(value as u8)
+}
+
+/// Takes one bit, as a truth value.
+pub fn flag(reader: &mut BitReader) -> Result<bool, Short>
+    ensures reads { Reads bit reader.old reader.new result }
+
+    // For the proofs of the readers above.
+    ensures exact { Gives bit reader.old reader.new result }
+{
+    let value = reader.take(1)?;
+    Ok(value == 1)
+}

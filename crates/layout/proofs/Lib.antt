@@ -1,0 +1,4 @@
+pub mod TextLemmas
+pub mod Layouts
+pub mod Counted
+pub mod ToEnd

@@ -1,0 +1,159 @@
+-- Layouts that take all of a text.
+use Rattle.std.proofs.Common.{◌≡◌, ℕ, zero, suc, ◌+◌, ◌-◌, ◌<◌, ◌≤◌, Bool, true, false, List, [], ◌∷◌, ◌++◌, length, take, drop, Result, Ok, Err, refl, sym, ap, subst, ◌∙◌, append_assoc, arith, inl, inr}
+use Rattle.std.specs.Prelude.{◌⊎◌}
+use Rattle.std.proofs.lemmas.Bool.{cases_lt, le-ltb, lt-ltb}
+use Rattle.std.proofs.lemmas.List.{append-nil, drop_at, drop-drop, length-append, length-drop, length-take, take-append-drop, drop-take, take_at}
+use Rattle.layout.specs.Exact.{IsExact, IsExactToEnd}
+use Rattle.layout.specs.Layout.{◌>>=◌, Layout, both, shaped}
+use Rattle.layout.specs.Reader.{Reader, left, moved}
+use Rattle.layout.specs.Laws.{Begins, IsDecided}
+use Rattle.layout.specs.ToEnd.{rest, tail, tail_read, inside, inside_read, window, back_out}
+use Rattle.layout.proofs.Layouts.{bind_ok, bind_err, done, failed, ok_is, err_is, left_moved, moved_twice}
+
+pub rest-to_end : {F : Type 0} → IsExactToEnd (rest {F = F})
+rest-to_end {F} = record {
+  takes = λ r s v e.
+      let p = ok_is {F = F} (left r, moved r (length (left r))) (v, s) e in
+      let v-is : left r ≡ v = ap (λ (x : List Bool × Reader). x.0) p in
+      (tt, v-is, sym (ap (λ (x : List Bool × Reader). x.1) p) ∙ ap (λ (t : List Bool). moved r (length t)) v-is);
+  again = λ r v fits e. ap (λ (t : List Bool). done {F = F} (t, moved r (length t))) e;
+  blames = λ r f e. absurd cc;
+  only = λ r f bad. absurd bad;
+}
+
+pub both-to_end : {A B F : Type 0} (H : Layout A F) (K : A → Layout B F) → IsExact H → ((a : A) → IsExactToEnd (K a)) → IsExactToEnd (both H K)
+both-to_end {A} {B} {F} H K h k = record {
+  takes = λ r s v e.
+      let a = bind_ok (H.read r) (λ x. (K x.0).read x.1 >>= λ y. Ok ((x.0, y.0), y.1)) (v, s) e in
+      let b = bind_ok ((K a.0.0).read a.0.1) (λ y. Ok ((a.0.0, y.0), y.1)) (v, s) a.2 in
+      let t0 = h.takes r a.0.1 a.0.0 a.1 in
+      let t1 = (k a.0.0).takes a.0.1 b.0.1 b.0.0 b.1 in
+      let s0 = H.spelling a.0.0 in
+      let s1 = (K a.0.0).spelling b.0.0 in
+      let made : (A × B) × Reader = ((a.0.0, b.0.0), b.0.1) in
+      let L = both H K in
+      subst (λ (y : (A × B) × Reader). L.Fits y.0 × (left r ≡ L.spelling y.0) × (y.1 ≡ moved r (length (L.spelling y.0)))) (ok_is {F = F} made (v, s) b.2)
+      ((t0.0, t1.0), t0.1 ∙ ap (λ (t : List Bool). s0 ++ t) t1.1, t1.2 ∙ ap (λ (q : Reader). moved q (length s1)) t0.2 ∙ moved_twice r s0 s1);
+  again = λ r v fits e.
+      let s0 = H.spelling v.0 in
+      let s1 = (K v.0).spelling v.1 in
+      let first = h.again r v.0 s1 fits.0 e in
+      let second = (k v.0).again (moved r (length s0)) v.1 fits.1 (left_moved r s0 s1 e) in
+      rw (first, second) (ap (λ (q : Reader). done {F = F} (v, q)) (moved_twice r s0 s1));
+  blames = λ r f e.
+      elim (bind_err (H.read r) (λ x. (K x.0).read x.1 >>= λ y. Ok ((x.0, y.0), y.1)) f e) [
+        | inl bad ↦ inl (h.blames r f bad)
+        | inr a ↦
+            let t0 = h.takes r a.0.1 a.0.0 a.1 in
+            elim (bind_err ((K a.0.0).read a.0.1) (λ y. Ok ((a.0.0, y.0), y.1)) f a.2) [
+              | inl bad ↦ inr (a.0.0, left a.0.1, t0.0, t0.1, subst (λ (n : ℕ). (K a.0.0).Faults n f (left a.0.1)) (ap (λ (q : Reader). q.at) t0.2) ((k a.0.0).blames a.0.1 f bad))
+              | inr b ↦ absurd (let never = b.2 in cc)
+            ]
+      ];
+  only = λ r f bad.
+      elim bad [
+        | inl b ↦ rw (h.only r f b) refl
+        | inr w ↦
+            let s0 = H.spelling w.0 in
+            let first = h.again r w.0 w.1 w.2 w.3 in
+            let there = subst (λ (t : List Bool). (K w.0).Faults (r.at + length s0) f t) (sym (left_moved r s0 w.1 w.3)) w.4 in
+            rw (first, (k w.0).only (moved r (length s0)) f there) refl
+      ];
+}
+
+tail_fits : {F : Type 0} (too_long : ℕ → F) (n : ℕ) (r : Reader) → length (left r) ≤ n → tail_read too_long n r ≡ Ok (left r, moved r (length (left r)))
+tail_fits too_long n r le = rw (le-ltb n (length (left r)) le) refl
+
+tail_over : {F : Type 0} (too_long : ℕ → F) (n : ℕ) (r : Reader) → n < length (left r) → tail_read too_long n r ≡ Err (too_long r.at)
+tail_over too_long n r lt = rw (lt-ltb n (length (left r)) lt) refl
+
+pub tail-to_end : {F : Type 0} (too_long : ℕ → F) (n : ℕ) → IsExactToEnd (tail too_long n)
+tail-to_end {F} too_long n = record {
+  takes = λ r s v e.
+      elim (cases_lt n (length (left r))) [
+        | inl over ↦ absurd (let never = tail_over too_long n r over in cc)
+        | inr le ↦
+            let p = ok_is {F = F} (left r, moved r (length (left r))) (v, s) (sym (tail_fits too_long n r le) ∙ e) in
+            let v-is : left r ≡ v = ap (λ (x : List Bool × Reader). x.0) p in
+            (subst (λ (t : List Bool). length t ≤ n) v-is le, v-is, sym (ap (λ (x : List Bool × Reader). x.1) p) ∙ ap (λ (t : List Bool). moved r (length t)) v-is)
+      ];
+  again = λ r v fits e. tail_fits too_long n r (subst (λ (t : List Bool). length t ≤ n) (sym e) fits) ∙ ap (λ (t : List Bool). done {F = F} (t, moved r (length t))) e;
+  blames = λ r f e.
+      elim (cases_lt n (length (left r))) [
+        | inl over ↦ (sym (err_is {A = List Bool × Reader} (too_long r.at) f (sym (tail_over too_long n r over) ∙ e)), over)
+        | inr le ↦ absurd (let never = tail_fits too_long n r le in cc)
+      ];
+  only = λ r f bad. tail_over too_long n r bad.1 ∙ ap (λ (d : F). failed {A = List Bool × Reader} d) (sym bad.0);
+}
+
+-- what is left in a window
+pub left-window : (r : Reader) (n : ℕ) → left (window r n) ≡ take n (left r)
+left-window r n = drop-take r.at n r.text
+
+inside_short : {A F : Type 0} (short : ℕ → F) (n : ℕ) (H : Layout A F) (r : Reader) → length (left r) < n → inside_read short n H r ≡ Err (short r.at)
+inside_short short n H r lt = rw (lt-ltb (length (left r)) n lt) refl
+
+inside_long : {A F : Type 0} (short : ℕ → F) (n : ℕ) (H : Layout A F) (r : Reader) → n ≤ length (left r) → inside_read short n H r ≡ back_out r n (H.read (window r n))
+inside_long short n H r le = rw (le-ltb (length (left r)) n le) refl
+
+back_ok : {A F : Type 0} (r s : Reader) (n : ℕ) (v : A) (q : Result (A × Reader) F) → back_out r n q ≡ Ok (v, s) → (w : Reader) × (q ≡ Ok (v, w)) × (s ≡ moved r n)
+back_ok {A} {F} r s n v (Ok x) e =
+    let p = ok_is {F = F} (x.0, moved r n) (v, s) e in
+    (x.1, ap (λ (y : A). done {F = F} (y, x.1)) (ap (λ (y : A × Reader). y.0) p), sym (ap (λ (y : A × Reader). y.1) p))
+back_ok r s n v (Err f) e = absurd cc
+
+back_err : {A F : Type 0} (r : Reader) (n : ℕ) (f : F) (q : Result (A × Reader) F) → back_out r n q ≡ Err f → q ≡ Err f
+back_err r n f (Ok x) e = absurd cc
+back_err {A} {F} r n f (Err g) e = ap (λ (d : F). failed {A = A × Reader} d) (err_is {A = A × Reader} g f e)
+
+-- n bits that are read to their end
+pub inside-exact : {A F : Type 0} (short : ℕ → F) (n : ℕ) (H : Layout A F) → IsExactToEnd H → IsExact (inside short n H)
+inside-exact {A} {F} short n H h = record {
+  takes = λ r s v e.
+      elim (cases_lt (length (left r)) n) [
+        | inl lt ↦ absurd (let never = inside_short short n H r lt in cc)
+        | inr le ↦
+            let b = back_ok r s n v (H.read (window r n)) (sym (inside_long short n H r le) ∙ e) in
+            let t = h.takes (window r n) b.0 v b.1 in
+            let text : take n (left r) ≡ H.spelling v = sym (left-window r n) ∙ t.1 in
+            let len : length (H.spelling v) ≡ n = omega (arith, ap (λ (x : List Bool). length x) text, length-take n (left r)) in
+            let s-is : s ≡ moved r (length (H.spelling v)) = b.2 ∙ ap (λ (k : ℕ). moved r k) (sym len) in
+            let front : left r ≡ H.spelling v ++ drop n (left r) = sym (take-append-drop n (left r)) ∙ ap (λ (x : List Bool). x ++ drop n (left r)) text in
+            let behind : left s ≡ drop n (left r) = ap (λ (q : Reader). left q) s-is ∙ left_moved r (H.spelling v) (drop n (left r)) front in
+            ((t.0, len), front ∙ ap (λ (x : List Bool). H.spelling v ++ x) (sym behind), s-is)
+      ];
+  again = λ r v u fits e.
+      let le : n ≤ length (left r) = omega (arith, ap (λ (x : List Bool). length x) e, length-append (H.spelling v) u, fits.1) in
+      let text : left (window r n) ≡ H.spelling v = left-window r n ∙ ap (λ (x : List Bool). take n x) e ∙ take_at (H.spelling v) u n fits.1 in
+      inside_long short n H r le ∙ ap (back_out r n) (h.again (window r n) v fits.0 text) ∙ ap (λ (k : ℕ). done {F = F} (v, moved r k)) (sym fits.1);
+  blames = λ r f e.
+      elim (cases_lt (length (left r)) n) [
+        | inl lt ↦ inl (lt, sym (err_is {A = A × Reader} (short r.at) f (sym (inside_short short n H r lt) ∙ e)))
+        | inr le ↦ inr (le, subst (λ (x : List Bool). H.Faults r.at f x) (left-window r n) (h.blames (window r n) f (back_err r n f (H.read (window r n)) (sym (inside_long short n H r le) ∙ e))))
+      ];
+  only = λ r f bad.
+      elim bad [
+        | inl a ↦ inside_short short n H r a.0 ∙ ap (λ (d : F). failed {A = A × Reader} d) (sym a.1)
+        | inr a ↦ inside_long short n H r a.0 ∙ ap (back_out r n) (h.only (window r n) f (subst (λ (x : List Bool). H.Faults r.at f x) (sym (left-window r n)) a.1))
+      ];
+}
+
+-- A text has a fault, or begins with the spelling of a value, and not both.
+pub decided : {A F : Type 0} (L : Layout A F) → IsExact L → (t : List Bool) → Begins L t ⊎ ((f : F) × L.Faults 0 f t)
+decided {A} {F} L l t =
+    let start : Reader = record { text = t; at = 0 } in
+    let go : (q : Result (A × Reader) F) → L.read start ≡ q → Begins L t ⊎ ((f : F) × L.Faults 0 f t) = elim [
+      | Ok x ↦ λ is. let p = l.takes start x.1 x.0 is in inl (x.0, left x.1, p.0, p.1)
+      | Err f ↦ λ is. inr (f, l.blames start f is)
+    ] in
+    go (L.read start) refl
+
+pub never_both : {A F : Type 0} (L : Layout A F) → IsExact L → (f : F) (t : List Bool) → Begins L t → L.Faults 0 f t → ⊥
+never_both {A} {F} L l f t begins bad =
+    let start : Reader = record { text = t; at = 0 } in
+    let a = l.again start begins.0 begins.1 begins.2 begins.3 in
+    let b = l.only start f bad in
+    cc
+
+pub decided_by : {A F : Type 0} (L : Layout A F) → IsExact L → IsDecided L
+decided_by L l = record { one_of = decided L l; not_both = never_both L l }

@@ -1,0 +1,29 @@
+-- What is true of every layout that is read exactly.
+use Rattle.std.specs.Prelude.{◌≡◌, ◌⊎◌, ℕ, Bool, List, ◌++◌, Result, OnErr}
+use Rattle.layout.specs.Reader.{Reader}
+use Rattle.layout.specs.Layout.{Layout}
+use Rattle.layout.specs.Reading.{Gives, GivesUnless, Reads, ReadsUnless}
+
+-- No spelling of one value is a prefix of another's: two texts that agree begin with the same value, and go on the same.
+abbrev pub HasOneSpelling : {A F : Type 0} → Layout A F → Type 0
+HasOneSpelling {A} L = (v w : A) (x y : List Bool) → L.Fits v → L.Fits w → L.spelling v ++ x ≡ L.spelling w ++ y → (v ≡ w) × (x ≡ y)
+
+-- A text has at most one fault.
+abbrev pub HasOneFault : {A F : Type 0} → Layout A F → Type 0
+HasOneFault {A} {F} L = (f g : F) (t : List Bool) → L.Faults 0 f t → L.Faults 0 g t → f ≡ g
+
+-- the text begins with the spelling of a value in which nothing is refused
+abbrev pub Begins : {A F : Type 0} → Layout A F → List Bool → Type 0
+Begins {A} L t = (v : A) × (u : List Bool) × L.Fits v × (t ≡ L.spelling v ++ u)
+
+-- A text has a fault exactly where it does not begin with a spelling.
+pub record IsDecided {A F : Type 0} (L : Layout A F) : Type 0 where
+  pub one_of : (t : List Bool) → Begins L t ⊎ ((f : F) × L.Faults 0 f t)
+  pub not_both : (f : F) (t : List Bool) → Begins L t → L.Faults 0 f t → ⊥
+
+-- What a call gives by the reading function, going back where it failed, is what a reader promises.
+abbrev pub IsRead : {A F : Type 0} → Layout A F → Type 0
+IsRead {A} {F} L = (old new : Reader) (result : Result A F) → Gives L old new result → OnErr result (new ≡ old) → Reads L old new result
+
+abbrev pub IsReadUnless : {A F : Type 0} → Layout A F → Type 0
+IsReadUnless {A} {F} L = (free : F → Bool) (old new : Reader) (result : Result A F) → GivesUnless free L old new result → OnErr result (new ≡ old) → ReadsUnless free L old new result

@@ -1,0 +1,9 @@
+pub mod Text
+pub mod Reader
+pub mod Layout
+pub mod Fields
+pub mod Times
+pub mod ToEnd
+pub mod Exact
+pub mod Reading
+pub mod Laws
