@@ -1,12 +1,12 @@
 -- Layouts put together of exact ones are exact.
 use Rattle.std.proofs.Common.{◌≡◌, ℕ, zero, suc, ◌+◌, ◌-◌, ◌*◌, ◌^◌, ◌<◌, ◌≤◌, Bool, true, false, cond, ltb, List, [], ◌∷◌, ◌++◌, length, get_or, take, drop, replicate, Option, Some, None, Result, Ok, Err, refl, sym, ap, subst, ◌∙◌, append_assoc, arith, inl, inr}
 use Rattle.std.specs.Prelude.{◌⊎◌, is_some, OnErr}
-use Rattle.std.proofs.lemmas.Bool.{cases_lt, ltb-false, le-ltb, lt-ltb, ltb-true}
+use Rattle.std.proofs.lemmas.Bool.{cases_lt, cases_eq, ne_eqb, ltb-false, le-ltb, lt-ltb, ltb-true}
 use Rattle.std.proofs.lemmas.List.{drop_at, drop-drop, length-append, take_at, length-take, take-append-drop, append-nil, length-replicate, length-take-le, append_cancel_left}
 use Rattle.std.specs.List.{flat_map, AllByRecursion}
 use Rattle.layout.specs.Exact.{IsField, IsExact, IsOpen}
 use Rattle.layout.specs.Fields.{Field, EndsWithin, IsRefused, field, parsed, judged, number, number_parse, flag, flag_parse, none_refused, run, run_parse}
-use Rattle.layout.specs.Layout.{◌>>=◌, Layout, IsProperPrefix, both, shaped, wrapped, error_mapped, known, where_set, FitsOption, spelling_of, read_where, whole, at_start, StopsWithin, checked, unless_refused}
+use Rattle.layout.specs.Layout.{◌>>=◌, Layout, IsProperPrefix, both, shaped, wrapped, error_mapped, known, where_set, FitsOption, spelling_of, read_where, whole, at_start, StopsWithin, checked, unless_refused, constant, unless_same}
 use Rattle.layout.specs.Reader.{Reader, left, moved}
 use Rattle.layout.specs.Reading.{Gives, GivesUnless, Reads, ReadsUnless}
 use Rattle.layout.specs.Text.{num, value_after}
@@ -612,3 +612,13 @@ whole_short {A} {F} {G} short H h r long =
       | Err f ↦ λ is. refl
     ] in
     go (H.read r) refl
+
+same_number : {F : Type 0} (v w : ℕ) (reason : ℕ → F) → unless_same v reason w ≡ None → v ≡ w
+same_number v w reason e =
+    elim (cases_eq w v) [
+      | inl same ↦ sym same
+      | inr other ↦ absurd (let is : unless_same v reason w ≡ Some reason = rw (ne_eqb w v other) refl in cc)
+    ]
+
+pub constant-exact : {F : Type 0} (reason : ℕ → F) (v : ℕ) (H : Layout ℕ F) → IsExact H → IsExact (constant reason v H)
+constant-exact reason v H h = shaped-exact (λ _. v) (λ _. tt) (checked (unless_same v reason) H) (checked-exact (unless_same v reason) H h) (λ a fits. same_number v a reason fits.1) (λ b fits. refl)

@@ -1,5 +1,5 @@
 -- Layouts of bits: the values that can be had, how each is spelled, and the first fault of a text.
-use Rattle.std.specs.Prelude.{◌≡◌, ℕ, ◌+◌, ◌⊎◌, Bool, true, false, List, [], ◌∷◌, ◌++◌, length, Option, Some, None, is_some, Result, Ok, Err}
+use Rattle.std.specs.Prelude.{◌≡◌, ◌==◌, if◌then◌else◌, ℕ, ◌+◌, ◌⊎◌, Bool, true, false, List, [], ◌∷◌, ◌++◌, length, Option, Some, None, is_some, Result, Ok, Err}
 use Rattle.layout.specs.Reader.{Reader, left, moved}
 
 infixl 10 ◌>>=◌
@@ -113,3 +113,10 @@ checked {A} {F} refusal H = record {
   Faults = λ at f t. (H.Faults at f t) ⊎ ((v : A) × (u : List Bool) × (reason : ℕ → F) × H.Fits v × (t ≡ H.spelling v ++ u) × (refusal v ≡ Some reason) × (f ≡ reason at));
   read = λ r. H.read r >>= λ x. unless_refused r.at x (refusal x.0);
 }
+
+abbrev pub unless_same : {F : Type 0} → ℕ → (ℕ → F) → ℕ → Option (ℕ → F)
+unless_same v reason w = if w == v then None else Some reason
+
+-- a number of which all values but one are refused; it says nothing, and so its value is no part of what is read
+abbrev pub constant : {F : Type 0} → (ℕ → F) → ℕ → Layout ℕ F → Layout (Unit {0}) F
+constant reason v H = shaped (λ _. v) (λ _. tt) (checked (unless_same v reason) H)

@@ -1,0 +1,2 @@
+pub mod SlotExact
+pub mod SlotSteps

@@ -1,0 +1,22 @@
+use Rattle.std.proofs.Common.{◌≡◌, ◌+◌, sym, ap, ◌∙◌, Ok, Err, ℕ}
+use Rattle.layout.specs.Reading.{Gives}
+use Rattle.bit_core.specs.Plain.{short_at}
+use Rattle.esc_value.specs.SlotLength.{slot}
+use Rattle.esc_value.proofs.SlotSteps.{SoFar, goes_on, ends, stops}
+use Rattle.esc_value.proofs.slot_length.added_up.Goals as goal
+
+pub bytes-preserved : goal.bytes-preserved
+bytes-preserved c = record {
+  so_far = rw c.from-length.ensures (goes_on c.args.reader.now c.bytes.reader c.small.new.reader c.bytes.length c.in-Ok.byte c.bytes.invariant.so_far c.in-Ok.ensures.exact c.if-byte.false);
+  start = c.bytes.invariant.start;
+}
+
+pub returns-then-byte : goal.returns-then-byte
+returns-then-byte c = record {
+  exact = rw c.from-length.ensures (ends c.args.reader.now c.bytes.reader c.small.new.reader c.bytes.length c.in-Ok.byte c.bytes.invariant.so_far c.in-Ok.ensures.exact c.if-byte.true);
+}
+
+pub returns-in-Err : goal.returns-in-Err
+returns-in-Err c = record {
+  exact = rw c.bytes.invariant.start (stops c.args.reader.now c.bytes.reader c.small.new.reader c.bytes.length c.in-Err.field-0 c.bytes.invariant.so_far c.in-Err.ensures.exact);
+}

@@ -1,0 +1,4 @@
+pub mod Faults
+pub mod UsacConfig
+pub mod Spelling
+pub mod UsacExact
