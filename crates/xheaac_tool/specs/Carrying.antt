@@ -1,0 +1,30 @@
+-- Which bytes carry which frames of the built form, and the longest list of frames that some bytes carry.
+use Rattle.std.specs.Prelude.{◌≡◌, ℕ, ◌<◌, ◌≤◌, Bool, true, false, List, [], ◌∷◌, ◌++◌, length, replicate}
+use Rattle.layout.specs.Text.{bits_of}
+use Rattle.xheaac_tool.specs.Framing.{framed, IsFrameBody}
+use Rattle.xheaac_tool.specs.declared.frame.Frame.{Frame}
+use Rattle.xheaac_tool.specs.Element.{element}
+
+-- the first bit of some bytes is 1
+abbrev pub BeginsWithOne : List ℕ → Type 0
+BeginsWithOne bytes = (rest : List Bool) × (bits_of bytes ≡ true ∷ rest)
+
+-- These bytes are the element of the frame, where a configuration is in force or not: its fields, and then fewer than 8
+-- zero bits. The access unit of the first frame begins with a 1: usacIndependencyFlag.
+pub record IsBuilt (in_force : Bool) (frame : Frame) (body : List ℕ) : Type 0 where
+  pub fits : (element in_force).Fits frame
+  pub independent : in_force ≡ false → BeginsWithOne frame.au
+  pub zeros : ℕ
+  pub few : zeros < 8
+  pub spelled : bits_of body ≡ (element in_force).spelling frame ++ replicate zeros false
+
+-- The text is the bytes of these frames, one LOAS frame each, and then the rest.
+abbrev pub Carries : Bool → List ℕ → List Frame → List ℕ → Type 0
+Carries in_force text [] rest = text ≡ rest
+Carries in_force text (frame ∷ frames) rest =
+    (body behind : List ℕ) × IsFrameBody body × (text ≡ framed body ++ behind) × IsBuilt in_force frame body × Carries true behind frames rest
+
+-- These are the most frames of the built form that a front of the text carries, and that is what remains of the text.
+pub record IsLongest (text : List ℕ) (frames : List Frame) (rest : List ℕ) : Type 0 where
+  pub carried : Carries false text frames rest
+  pub longest : (others : List Frame) (remains : List ℕ) → Carries false text others remains → length others ≤ length frames

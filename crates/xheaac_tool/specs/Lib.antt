@@ -1,0 +1,6 @@
+pub mod Framing
+pub mod Front
+pub mod Cut
+pub mod Faults
+pub mod Element
+pub mod Carrying
