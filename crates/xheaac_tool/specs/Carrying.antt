@@ -5,15 +5,16 @@ use Rattle.xheaac_tool.specs.Framing.{framed, IsFrameBody}
 use Rattle.xheaac_tool.specs.declared.frame.Frame.{Frame}
 use Rattle.xheaac_tool.specs.Element.{element}
 
--- the first bit of some bytes is 1
-abbrev pub BeginsWithOne : List ℕ → Type 0
-BeginsWithOne bytes = (rest : List Bool) × (bits_of bytes ≡ true ∷ rest)
+-- the first bit of a text
+abbrev pub first_bit : List Bool → Bool
+first_bit [] = false
+first_bit (b ∷ t) = b
 
 -- These bytes are the element of the frame, where a configuration is in force or not: its fields, and then fewer than 8
 -- zero bits. The access unit of the first frame begins with a 1: usacIndependencyFlag.
 pub record IsBuilt (in_force : Bool) (frame : Frame) (body : List ℕ) : Type 0 where
   pub fits : (element in_force).Fits frame
-  pub independent : in_force ≡ false → BeginsWithOne frame.au
+  pub independent : in_force ≡ false → first_bit (bits_of frame.au) ≡ true
   pub zeros : ℕ
   pub few : zeros < 8
   pub spelled : bits_of body ≡ (element in_force).spelling frame ++ replicate zeros false

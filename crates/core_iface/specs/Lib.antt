@@ -1,0 +1,6 @@
+pub mod Units
+pub mod Faults
+pub mod Decoding
+pub mod Answering
+pub mod Folding
+pub mod Samples

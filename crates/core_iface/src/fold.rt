@@ -1,0 +1,220 @@
+ghost use Rattle.std.specs.Prelude.{◌≡◌, ◌+◌, ◌*◌, ◌%◌, ◌<◌, ◌≤◌, List, ℕ, ◌∷◌, ◌++◌, length, map, take, None, OnOk, OnErr};
+ghost use Rattle.core_iface.specs.Folding.{places, value_of, weighted, below, sample, ramp};
+
+use crate::cores::Core;
+use crate::fault::CoreFault;
+use crate::unit::Unit;
+use bit_core::Bits;
+use std::alloc::{AllocError, Global};
+use std::marker::Model;
+use usac_cfg::UsacConfig;
+
+/// The example core, which decodes no audio. It never fails, but for want of memory.
+///
+/// The value of an independent unit is the sum of the places of its ones, modulo 32768; that of
+/// another unit takes in three times the value of the unit before. Its block is a ramp that starts
+/// at this value plus twice the value before.
+#[derive(Drop)]
+pub struct FoldCore {
+    /// None where the core is not ready.
+    config: Option<UsacConfig>,
+    context: u16,
+    /// The values of the last units that still tell, the newest first.
+    past: [u16; 1],
+    fed: u64,
+}
+
+impl Model for FoldCore {
+    ghost use Rattle.std.specs.Prelude.{IfSome};
+    ghost use Rattle.usac_cfg.specs.UsacConfig.{IsWellFormed};
+    ghost use Rattle.core_iface.specs.Folding.{Folded, ready_with};
+
+    ghost Value = { Folded };
+
+    ghost view = { λ k. record { ready = ready_with k.config k.context k.past; fed = k.fed } };
+
+    ghost invariant = { λ k. IfSome k.config IsWellFormed };
+}
+
+impl FoldCore {
+    /// A core that is not ready, and was fed nothing.
+    pub fn new() -> FoldCore
+        ensures { result ≡ record { ready = None; fed = 0 } }
+    {
+        FoldCore {
+            config: None,
+            context: 0,
+            past: [0],
+            fed: 0,
+        }
+    }
+}
+
+impl Core for FoldCore {
+    ghost use Rattle.core_iface.specs.Folding.{fold_core, meaning_of};
+
+    ghost does = { fold_core };
+
+    ghost meaning = { meaning_of };
+
+    ghost IsCalm = { λ _. Unit {0} };
+
+    fn faults(&self) -> u64 {
+        0
+    }
+
+    fn fed(&self) -> u64 {
+        self.fed
+    }
+
+    fn reset(&mut self, _alloc: Global, config: &UsacConfig) -> Result<(), CoreFault> {
+        self.config = Some(*config);
+        self.context = 0;
+        self.past = [0];
+        Ok(())
+    }
+
+    fn step(&mut self, _alloc: Global, unit: &Unit, out: &mut Vec<i16>) -> Result<(), CoreFault> {
+        let Some(config) = &self.config else {
+            unreachable!()
+        };
+        let value = value_behind(self.context, unit);
+        let level = u32::from(value) + weighted_sum(&self.past);
+        if let Err(fault) = append_ramp(level, config.channels(), config.frame_length(), out) {
+            self.config = None;
+            return Err(CoreFault::from(fault));
+        }
+        self.context = value;
+        self.past = [value];
+        self.fed += 1;
+        Ok(())
+    }
+}
+
+/// The value of a unit behind a context.
+fn value_behind(context: u16, unit: &Unit) -> u16
+    ensures { (past : List ℕ) → result ≡ value_of (context ∷ past) unit.now }
+{
+    let places = sum_of_places(&unit.bits);
+    if unit.independent {
+        places as u16
+    } else {
+        ((3 * u32::from(context) + places) % 32768) as u16
+    }
+}
+
+/// The sum of the places of the ones, counted from 1, modulo 32768.
+fn sum_of_places(bits: &Bits) -> u32
+    ensures { result ≡ places 1 bits.now % 32768 }
+{
+    let mut sum: u32 = 0;
+    for at in 0..bits.len() {
+        if bits.get(at).unwrap_or(false) {
+            sum = (sum + (at % 32768) as u32 + 1) % 32768;
+        }
+    }
+    sum
+}
+
+/// Twice the first value, three times the second, and so on.
+fn weighted_sum(past: &[u16]) -> u32
+    requires { length past.now ≤ 3 }
+    ensures sum { result ≡ weighted 2 past.now }
+    ensures small { result ≤ 786420 }
+{
+    let mut sum: u32 = 0;
+    for (i, value) in past.iter().enumerate() {
+        sum += (i as u32 + 2) * u32::from(*value);
+    }
+    sum
+}
+
+/// Appends a ramp that starts at the level, or nothing.
+fn append_ramp(level: u32, channels: u32, times: u32, out: &mut Vec<i16>) -> Result<(), AllocError>
+    ensures ok { OnOk result (out.new.items ≡ out.old.items ++ ramp level channels times) }
+    ensures err { OnErr result (out.new.items ≡ out.old.items) }
+{
+    let before = out.len();
+    let pushed = push_ramp(level, channels, times, out);
+    if pushed.is_err() {
+        out.truncate(before);
+    }
+    pushed
+}
+
+fn push_ramp(level: u32, channels: u32, times: u32, out: &mut Vec<i16>) -> Result<(), AllocError>
+    ensures ok { OnOk result (out.new.items ≡ out.old.items ++ ramp level channels times) }
+    ensures err { OnErr result (take (length out.old.items) out.new.items ≡ out.old.items) }
+{
+    out.reserve(channels as usize * times as usize)?;
+    for time in 0..times {
+        push_row(level, time, channels, out)?;
+    }
+    Ok(())
+}
+
+fn push_row(level: u32, time: u32, channels: u32, out: &mut Vec<i16>) -> Result<(), AllocError>
+    ensures ok { OnOk result (out.new.items ≡ out.old.items ++ map (sample level time) (below channels)) }
+    ensures err { OnErr result (take (length out.old.items) out.new.items ≡ out.old.items) }
+{
+    for channel in 0..channels {
+        out.push(sample_at(level, time, channel))?;
+    }
+    Ok(())
+}
+
+fn sample_at(level: u32, time: u32, channel: u32) -> i16
+    ensures { result ≡ sample level time channel }
+{
+    let place = u64::from(level) + u64::from(time) * (u64::from(channel) + 1);
+    ((place % 65536) as u16).cast_signed()
+}
+
+#[cfg(test)]
+mod tests {
+    use super::*;
+    use std::test::Fail;
+    use usac_cfg::CoreConfig;
+
+    const MONO: UsacConfig = UsacConfig {
+        rate_index: 3,
+        frame_index: 1,
+        core: CoreConfig {
+            tw_mdct: false,
+            noise_filling: false,
+        },
+    };
+
+    fn unit(alloc: Global, independent: bool, ones: &[u8]) -> Result<Unit, AllocError> {
+        let mut bits = Bits::new(alloc);
+        for one in ones {
+            bits.push(*one == 1)?;
+        }
+        Ok(Unit { independent, bits })
+    }
+
+    #[test]
+    fn blocks_of_units(rt: HostRuntime) -> Result<(), Fail> {
+        let alloc = rt.alloc();
+        let mut core = FoldCore::new();
+        let mut out = Vec::new(alloc);
+        core.reset(alloc, &MONO)?;
+        let rows: [(bool, &[u8], i16, i16); 3] = [
+            (true, &[0, 1], 2, 1025),
+            (false, &[0, 0, 1], 13, 1036),
+            (true, &[1], 19, 1042),
+        ];
+        for (independent, ones, first, last) in rows {
+            out.clear();
+            let unit = unit(alloc, independent, ones)?;
+            core.step(alloc, &unit, &mut out)?;
+            assert_eq!(rt; out.len(), 1024);
+            assert_eq!(rt; out[0], first);
+            assert_eq!(rt; out[1], first + 1);
+            assert_eq!(rt; out[1023], last);
+        }
+        assert_eq!(rt; core.fed(), 3);
+        assert_eq!(rt; core.faults(), 0);
+        Ok(())
+    }
+}

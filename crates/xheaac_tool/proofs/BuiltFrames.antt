@@ -1,0 +1,157 @@
+-- An element of the built form is read exactly, and so is the frame whose element some bytes are.
+use Rattle.std.proofs.Common.{◌≡◌, ℕ, zero, suc, ◌+◌, ◌*◌, ◌/◌, ◌%◌, ◌^◌, ◌<◌, ◌≤◌, Bool, true, false, not, eqb, List, [], ◌∷◌, ◌++◌, length, get_or, replicate, Option, Some, None, Result, Ok, Err, refl, sym, ap, subst, ◌∙◌, arith}
+use Rattle.std.proofs.lemmas.Bool.{cases_eq, eq-eqb, ne_eqb}
+use Rattle.std.proofs.lemmas.List.{length-append, append_cancel_left, append-nil, replicate_more, length-replicate}
+use Rattle.std.proofs.lemmas.Nat.{pow_pos}
+use Rattle.layout.specs.Text.{num, is_odd, bits_of, value_after}
+use Rattle.layout.specs.Reader.{Reader, left, moved}
+use Rattle.layout.specs.Layout.{Layout, both}
+use Rattle.layout.specs.Exact.{IsExact}
+use Rattle.layout.specs.Reading.{GivesUnless}
+use Rattle.layout.proofs.TextLemmas.{num-split, length-num, value_after-num, length-bits_of}
+use Rattle.layout.proofs.Layouts.{both-exact, shaped-exact, wrapped-exact, checked-exact, constant-exact, where_set-exact, left_moved, ok_is}
+use Rattle.bit_core.proofs.PlainFacts.{bits-exact, octets-exact}
+use Rattle.bit_core.specs.declared.faults.ReadFault.TheVariants as reads
+use Rattle.esc_value.proofs.SlotExact.{slot_exact}
+use Rattle.usac_cfg.specs.UsacExact.{usac_config_exact}
+use Rattle.xheaac_tool.specs.declared.frame.Frame.{Frame}
+use Rattle.xheaac_tool.specs.declared.frame.Opening.{Opening}
+use Rattle.xheaac_tool.specs.declared.frame.ElementFault.{ElementFault}
+use Rattle.xheaac_tool.specs.Faults.{not_built, from_short, from_read, from_config, is_memory}
+use Rattle.xheaac_tool.specs.Element.{number, fixed, behind, before, mux_head, mux_tail, object_type, asc_fields, stream_mux, length_refused, slot_of_bytes, same_mux, element}
+use Rattle.xheaac_tool.specs.Carrying.{IsBuilt, first_bit}
+
+number-exact : (n : ℕ) → IsExact (number n)
+number-exact n = wrapped-exact from_short _ (bits-exact n)
+
+fixed-exact : (n v : ℕ) → IsExact (fixed n v)
+fixed-exact n v = constant-exact not_built v (number n) (number-exact n)
+
+behind-exact : {A : Type 0} (H : Layout (Unit {0}) ElementFault) (K : Layout A ElementFault) → IsExact H → IsExact K → IsExact (behind H K)
+behind-exact {A} H K h k = shaped-exact {A = Unit {0} × A} {B = A} (λ v. (tt, v)) (λ x. x.1) (both H (λ _. K)) (both-exact H (λ _. K) h (λ _. k)) (λ a fits. refl) (λ b fits. refl)
+
+before-exact : {A : Type 0} (H : Layout A ElementFault) (K : Layout (Unit {0}) ElementFault) → IsExact H → IsExact K → IsExact (before H K)
+before-exact {A} H K h k = shaped-exact {A = A × Unit {0}} {B = A} (λ v. (v, tt)) (λ x. x.0) (both H (λ _. K)) (both-exact H (λ _. K) h (λ _. k)) (λ a fits. refl) (λ b fits. refl)
+
+mux_head-exact : IsExact mux_head
+mux_head-exact = behind-exact _ _ (fixed-exact 1 0) (behind-exact _ _ (fixed-exact 1 1) (behind-exact _ _ (fixed-exact 6 0) (behind-exact _ _ (fixed-exact 4 0) (fixed-exact 3 0))))
+
+mux_tail-exact : IsExact mux_tail
+mux_tail-exact = behind-exact _ _ (fixed-exact 3 0) (behind-exact _ _ (fixed-exact 8 255) (behind-exact _ _ (fixed-exact 1 0) (fixed-exact 1 0)))
+
+object_type-exact : IsExact object_type
+object_type-exact = behind-exact _ _ (fixed-exact 5 31) (fixed-exact 6 10)
+
+asc_fields-exact : IsExact asc_fields
+asc_fields-exact = shaped-exact _ _ _ (both-exact _ _ (number-exact 4) (λ index. both-exact _ _ (where_set-exact (eqb index 15) (number 24) (number-exact 24)) (λ _. both-exact _ _ (number-exact 4) (λ _. wrapped-exact from_config _ usac_config_exact)))) (λ a h. refl) (λ b h. refl)
+
+stream_mux-exact : IsExact stream_mux
+stream_mux-exact = behind-exact _ _ mux_head-exact (before-exact _ _ (behind-exact _ _ object_type-exact asc_fields-exact) mux_tail-exact)
+
+slot_of_bytes-exact : IsExact slot_of_bytes
+slot_of_bytes-exact = shaped-exact _ _ _ (both-exact _ _ (checked-exact length_refused _ (wrapped-exact from_short _ slot_exact)) (λ n. wrapped-exact from_read _ (wrapped-exact reads.Short _ (octets-exact n)))) (λ a h. ap (λ (n : ℕ). let p : ℕ × List ℕ = (n, a.1) in p) h.1.0) (λ b h. refl)
+
+pub element-exact : (in_force : Bool) → IsExact (element in_force)
+element-exact in_force = behind-exact _ _ (fixed-exact 1 (same_mux in_force)) (shaped-exact _ _ _ (both-exact _ _ (where_set-exact (not in_force) stream_mux stream_mux-exact) (λ _. slot_of_bytes-exact)) (λ a h. refl) (λ b h. refl))
+
+-- ---- fewer than 8 zeros to the end
+
+num_zero : (n : ℕ) → num n 0 ≡ replicate n false
+unfolding num
+num_zero zero = refl
+num_zero (suc n) = ap (λ (t : List Bool). t ++ false ∷ []) (num_zero n) ∙ replicate_more n false ∙ ap (λ (k : ℕ). replicate k false) (let k : n + 1 ≡ suc n = omega arith in k)
+
+no_more : (t u : List Bool) → length t ≡ length t + length u → u ≡ []
+no_more t [] e = refl
+no_more t (b ∷ u) e = absurd (omega arith)
+
+-- the number that is left is 0
+pub zeros_left : (t u : List Bool) (n v : ℕ) → n ≡ length t → n < 8 → t ≡ num n v ++ u → v ≡ 0 → (zeros : ℕ) × (zeros < 8) × (t ≡ replicate zeros false)
+zeros_left t u n v many few e is =
+    let none : u ≡ [] = no_more t u (omega (arith, ap (λ (x : List Bool). length x) e, length-append (num n v) u, length-num n v, many)) in
+    (n, few, e ∙ ap (λ (x : List Bool). num n v ++ x) none ∙ append-nil (num n v) ∙ ap (λ (k : ℕ). num n k) is ∙ num_zero n)
+
+pub left_zeros : (t u : List Bool) (n v : ℕ) → n ≡ length t → v < 2 ^ n → t ≡ num n v ++ u → ((zeros : ℕ) × (zeros < 8) × (t ≡ replicate zeros false)) → v ≡ 0
+left_zeros t u n v many lt e z =
+    let none : u ≡ [] = no_more t u (omega (arith, ap (λ (x : List Bool). length x) e, length-append (num n v) u, length-num n v, many)) in
+    let size : n ≡ z.0 = many ∙ ap (λ (x : List Bool). length x) z.2 ∙ length-replicate z.0 false in
+    let same : num n v ≡ num n 0 = sym (append-nil (num n v)) ∙ ap (λ (x : List Bool). num n v ++ x) (sym none) ∙ sym e ∙ z.2 ∙ ap (λ (k : ℕ). replicate k false) (sym size) ∙ sym (num_zero n) in
+    omega (arith, value_after-num 0 n v lt, value_after-num 0 n 0 (pow_pos n), ap (λ (x : List Bool). value_after 0 x) same)
+
+pub zeros_few : (t : List Bool) → ((zeros : ℕ) × (zeros < 8) × (t ≡ replicate zeros false)) → length t < 8
+zeros_few t z = omega (arith, z.1, ap (λ (x : List Bool). length x) z.2, length-replicate z.0 false)
+
+-- the first bit of a byte
+pub byte_first : (b : ℕ) (bytes : List ℕ) → b < 256 → eqb (b / 2 ^ 7) 1 ≡ first_bit (bits_of (b ∷ bytes))
+unfolding num bits_of
+byte_first b bytes lt =
+    let upper : (b / 2 ^ 7) % 2 ≡ b / 2 ^ 7 = omega arith in
+    let parts : num 8 b ≡ is_odd (b / 2 ^ 7) ∷ num 7 b = num-split 1 7 b in
+    sym (ap (λ (t : List Bool). first_bit (t ++ bits_of bytes)) parts ∙ ap (λ (k : ℕ). eqb k 1) upper)
+
+pub no_bytes_first : (bytes : List ℕ) → length bytes < 1 → false ≡ first_bit (bits_of bytes)
+unfolding bits_of
+no_bytes_first [] lt = refl
+no_bytes_first (b ∷ bytes) lt = absurd (omega arith)
+
+pub bytes_first : (bytes : List ℕ) → 1 ≤ length bytes → get_or bytes 0 0 < 256 → eqb (get_or bytes 0 0 / 128) 1 ≡ first_bit (bits_of bytes)
+bytes_first [] le lt = absurd (omega arith)
+bytes_first (b ∷ bytes) le lt = byte_first b bytes lt
+
+-- ---- the frame of some bytes
+
+abbrev pub start_of : List ℕ → Reader
+start_of body = record { text = bits_of body; at = 0 }
+
+-- what is read, with zeros behind it, is the frame of the bytes
+pub is_built : (o : Bool) (body : List ℕ) (frame : Frame) (start new : Reader) → start ≡ start_of body → GivesUnless is_memory (element o) start new (Ok frame)
+    → ((zeros : ℕ) × (zeros < 8) × (left new ≡ replicate zeros false)) → (o ≡ false → first_bit (bits_of frame.au) ≡ true) → IsBuilt o frame body
+is_built o body frame start new at gives z first =
+    let t = (element-exact o).takes start new frame gives.0 in
+    record {
+      fits = t.0;
+      independent = first;
+      zeros = z.0;
+      few = z.1;
+      spelled = sym (ap (λ (r : Reader). left r) at) ∙ t.1 ∙ ap (λ (u : List Bool). (element o).spelling frame ++ u) z.2;
+    }
+
+-- and the frame of the bytes is read
+pub reads_built : (o : Bool) (body : List ℕ) (frame : Frame) (start : Reader) → start ≡ start_of body → (b : IsBuilt o frame body)
+    → ((element o).read start ≡ Ok (frame, moved start (length ((element o).spelling frame)))) × (left (moved start (length ((element o).spelling frame))) ≡ replicate b.zeros false)
+reads_built o body frame start at b =
+    let e : left start ≡ (element o).spelling frame ++ replicate b.zeros false = ap (λ (r : Reader). left r) at ∙ b.spelled in
+    ((element-exact o).again start frame (replicate b.zeros false) b.fits e, left_moved start ((element o).spelling frame) (replicate b.zeros false) e)
+
+pub none_read : (o : Bool) (body : List ℕ) (start new : Reader) (fault : ElementFault) → start ≡ start_of body → GivesUnless is_memory (element o) start new (Err fault)
+    → is_memory fault ≡ false → (frame : Frame) → IsBuilt o frame body → ⊥
+none_read o body start new fault at gives free frame b =
+    let is = (reads_built o body frame start at b).0 in
+    let fails = gives.0 free in
+    cc
+
+-- what is read is the frame of the bytes, if there is one
+pub same_frame_read : (o : Bool) (body : List ℕ) (frame other : Frame) (start new : Reader) → start ≡ start_of body → GivesUnless is_memory (element o) start new (Ok frame)
+    → (b : IsBuilt o other body) → (frame ≡ other) × (left new ≡ replicate b.zeros false)
+same_frame_read o body frame other start new at gives b =
+    let is = reads_built o body other start at b in
+    let p = ok_is {F = ElementFault} (frame, new) (other, moved start (length ((element o).spelling other))) (sym gives.0 ∙ is.0) in
+    (ap (λ (x : Frame × Reader). x.0) p, ap (λ (x : Frame × Reader). left x.1) p ∙ is.1)
+
+pub none_zeros : (o : Bool) (body : List ℕ) (frame : Frame) (start new : Reader) → start ≡ start_of body → GivesUnless is_memory (element o) start new (Ok frame)
+    → (((zeros : ℕ) × (zeros < 8) × (left new ≡ replicate zeros false)) → ⊥) → (other : Frame) → IsBuilt o other body → ⊥
+none_zeros o body frame start new at gives never other b = never (b.zeros, b.few, (same_frame_read o body frame other start new at gives b).1)
+
+pub none_first : (o : Bool) (body : List ℕ) (frame : Frame) (start new : Reader) → start ≡ start_of body → GivesUnless is_memory (element o) start new (Ok frame)
+    → ((o ≡ false → first_bit (bits_of frame.au) ≡ true) → ⊥) → (other : Frame) → IsBuilt o other body → ⊥
+none_first o body frame start new at gives never other b =
+    let same = (same_frame_read o body frame other start new at gives b).0 in
+    never (λ h. ap (λ (f : Frame). first_bit (bits_of f.au)) same ∙ b.independent h)
+
+-- some bytes are the element of one frame at most
+pub one_frame : (o : Bool) (body : List ℕ) (frame other : Frame) → IsBuilt o frame body → IsBuilt o other body → frame ≡ other
+one_frame o body frame other a b =
+    let x = (reads_built o body frame (start_of body) refl a).0 in
+    let y = (reads_built o body other (start_of body) refl b).0 in
+    let p = ok_is {F = ElementFault} (frame, moved (start_of body) (length ((element o).spelling frame))) (other, moved (start_of body) (length ((element o).spelling other))) (sym x ∙ y) in
+    ap (λ (q : Frame × Reader). q.0) p
