@@ -21,7 +21,9 @@ pub record Input : Type 0 where
 pub record Stock : Type 0 where
   -- the greatest number of bytes that one read gives
   pub piece : ℕ
+  -- which reads fail, where the reads of all inputs are counted together
   pub plan : Plan
+  -- the names, in the order in which they were added
   pub held : List Named
   -- the begun inputs, by their numbers
   pub begun : List Input
@@ -30,7 +32,9 @@ pub record Stock : Type 0 where
 pub record Collected : Type 0 where
   -- the greatest number of bytes that one write takes
   pub piece : ℕ
+  -- which writes fail
   pub plan : Plan
+  -- all that was written
   pub bytes : List ℕ
 
 -- the bytes under a name, where it is held

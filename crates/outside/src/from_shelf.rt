@@ -11,6 +11,7 @@ pub struct FromShelf<'a, H: Shelf> {
     pub shelf: &'a mut H,
     /// The number of the begun input.
     pub id: u32,
+    /// That number was answered by a `begin` of the shelf.
     pub ghost begun: { id < H.begun shelf.now },
 }
 

@@ -52,8 +52,9 @@ impl MemShelf {
         })
     }
 
+    /// Holds a copy of `bytes` under that name, which was not held before. Takes memory as the
+    /// shelf's lists do, from the allocator that the shelf was made with.
     #[tactic(auto, using(crate::proofs::Holding::holding))]
-    /// Holds a copy of `bytes` under that name, which was not held before.
     pub fn add(&mut self, name: &str, bytes: &[u8]) -> Result<(), AllocError>
         requires { IsNone (bytes_of self.old.held name.now) }
         ensures held { OnOk result (bytes_of self.new.held name.now ≡ Some bytes.now) }

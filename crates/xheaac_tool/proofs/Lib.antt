@@ -1,2 +1,4 @@
 pub mod Frames
+pub mod Pieces
+pub mod Found
 pub mod BuiltFrames

@@ -5,3 +5,5 @@ mod built;
 mod element;
 mod frame;
 mod framing;
+mod reader;
+mod stream_end;
