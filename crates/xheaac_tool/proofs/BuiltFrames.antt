@@ -1,17 +1,20 @@
 -- An element of the built form is read exactly, and so is the frame whose element some bytes are.
-use Rattle.std.proofs.Common.{◌≡◌, ℕ, zero, suc, ◌+◌, ◌*◌, ◌/◌, ◌%◌, ◌^◌, ◌<◌, ◌≤◌, Bool, true, false, not, eqb, List, [], ◌∷◌, ◌++◌, length, get_or, replicate, Option, Some, None, Result, Ok, Err, refl, sym, ap, subst, ◌∙◌, arith}
-use Rattle.std.proofs.lemmas.Bool.{cases_eq, eq-eqb, ne_eqb}
+use Rattle.std.proofs.Common.{◌≡◌, ℕ, zero, suc, ◌+◌, ◌*◌, ◌/◌, ◌%◌, ◌^◌, ◌<◌, ◌≤◌, Bool, true, false, not, eqb, List, [], ◌∷◌, ◌++◌, length, get_or, replicate, Option, Some, None, Result, Ok, Err, refl, sym, ap, ◌∙◌, arith, inl, inr}
+use Rattle.std.specs.Prelude.{◌⊎◌}
+use Rattle.std.proofs.lemmas.Bool.{cases_lt}
 use Rattle.std.proofs.lemmas.List.{length-append, append_cancel_left, append-nil, replicate_more, length-replicate}
 use Rattle.std.proofs.lemmas.Nat.{pow_pos}
 use Rattle.layout.specs.Text.{num, is_odd, bits_of, value_after}
 use Rattle.layout.specs.Reader.{Reader, left, moved}
-use Rattle.layout.specs.Layout.{Layout, both}
+use Rattle.std.specs.List.{flat_map}
+use Rattle.layout.specs.Layout.{Layout, both, spelling_of}
 use Rattle.layout.specs.Exact.{IsExact}
 use Rattle.layout.specs.Reading.{GivesUnless}
 use Rattle.layout.proofs.TextLemmas.{num-split, length-num, value_after-num, length-bits_of}
-use Rattle.layout.proofs.Layouts.{both-exact, shaped-exact, wrapped-exact, checked-exact, constant-exact, where_set-exact, left_moved, ok_is}
+use Rattle.layout.proofs.Layouts.{both-exact, shaped-exact, wrapped-exact, checked-exact, constant-exact, where_set-exact, left_moved, ok_is, moves}
 use Rattle.bit_core.proofs.PlainFacts.{bits-exact, octets-exact}
 use Rattle.bit_core.specs.declared.faults.ReadFault.TheVariants as reads
+use Rattle.esc_value.specs.SlotLength.{slot_text}
 use Rattle.esc_value.proofs.SlotExact.{slot_exact}
 use Rattle.usac_cfg.specs.UsacExact.{usac_config_exact}
 use Rattle.xheaac_tool.specs.declared.frame.Frame.{Frame}
@@ -155,3 +158,77 @@ one_frame o body frame other a b =
     let y = (reads_built o body other (start_of body) refl b).0 in
     let p = ok_is {F = ElementFault} (frame, moved (start_of body) (length ((element o).spelling frame))) (other, moved (start_of body) (length ((element o).spelling other))) (sym x ∙ y) in
     ap (λ (q : Frame × Reader). q.0) p
+
+-- ---- whether some bytes are the element of a frame can be decided
+
+one_is_no_zero : (t : List Bool) (n : ℕ) → true ∷ t ≡ replicate n false → ⊥
+one_is_no_zero t zero e = cc
+one_is_no_zero t (suc n) e = cc
+
+zeros_behind : (t : List Bool) (n : ℕ) → false ∷ t ≡ replicate n false → (k : ℕ) × (t ≡ replicate k false)
+zeros_behind t zero e = absurd cc
+zeros_behind t (suc n) e = (n, cc)
+
+decided_zeros : (t : List Bool) → (t ≡ replicate (length t) false) ⊎ ((n : ℕ) → t ≡ replicate n false → ⊥)
+decided_zeros [] = inl refl
+decided_zeros (true ∷ t) = inr (one_is_no_zero t)
+decided_zeros (false ∷ t) =
+    elim (decided_zeros t) [
+      | inl same ↦ inl (ap (λ (u : List Bool). false ∷ u) same)
+      | inr never ↦ inr (λ n e. let k = zeros_behind t n e in never k.0 k.1)
+    ]
+
+decided_end : (t : List Bool) → ((zeros : ℕ) × (zeros < 8) × (t ≡ replicate zeros false)) ⊎ (((zeros : ℕ) × (zeros < 8) × (t ≡ replicate zeros false)) → ⊥)
+decided_end t =
+    elim (decided_zeros t) [
+      | inl same ↦ elim (cases_lt (length t) 8) [
+        | inl few ↦ inl (length t, few, same)
+        | inr many ↦ inr (λ z. let few = zeros_few t z in omega arith)
+      ]
+      | inr never ↦ inr (λ z. never z.0 z.2)
+    ]
+
+decided_first : (o b : Bool) → (o ≡ false → b ≡ true) ⊎ ((o ≡ false → b ≡ true) → ⊥)
+decided_first true b = inl (λ h. absurd cc)
+decided_first false true = inl (λ h. refl)
+decided_first false false = inr (λ h. let e = h refl in cc)
+
+pub decided_frame : (o : Bool) (body : List ℕ) → ((frame : Frame) × IsBuilt o frame body) ⊎ ((frame : Frame) → IsBuilt o frame body → ⊥)
+decided_frame o body = go ((element o).read (start_of body)) refl
+  where
+    read_ok : (frame : Frame) (s : Reader) → (element o).read (start_of body) ≡ Ok (frame, s) → GivesUnless is_memory (element o) (start_of body) s (Ok frame)
+    read_ok frame s e = (e, moves (element o) (element-exact o) (start_of body) s frame e)
+
+    go : (q : Result (Frame × Reader) ElementFault) → (element o).read (start_of body) ≡ q → ((frame : Frame) × IsBuilt o frame body) ⊎ ((frame : Frame) → IsBuilt o frame body → ⊥)
+    go (Err f) is = inr (λ frame b. let reads = (reads_built o body frame (start_of body) refl b).0 in cc)
+    go (Ok x) is =
+        let gives = read_ok x.0 x.1 is in
+        elim (decided_end (left x.1)) [
+          | inl z ↦ elim (decided_first o (first_bit (bits_of x.0.au))) [
+            | inl first ↦ inl (x.0, is_built o body x.0 (start_of body) x.1 refl gives z first)
+            | inr never ↦ inr (none_first o body x.0 (start_of body) x.1 refl gives never)
+          ]
+          | inr never ↦ inr (none_zeros o body x.0 (start_of body) x.1 refl gives never)
+        ]
+
+-- bytes have bits
+pub some_bits : (bytes : List ℕ) → 0 < length bytes → (b : Bool) × (t : List Bool) × (bits_of bytes ≡ b ∷ t)
+some_bits bytes lt = some_of (bits_of bytes) (omega (arith, length-bits_of bytes, lt))
+  where
+    some_of : (t : List Bool) → 0 < length t → (b : Bool) × (u : List Bool) × (t ≡ b ∷ u)
+    some_of [] lt = absurd (omega arith)
+    some_of (b ∷ u) lt = (b, u, refl)
+
+octets_long : (au : List ℕ) → length (flat_map (num 8) au) ≡ 8 * length au
+unfolding bits_of
+octets_long au = length-bits_of au
+
+-- an access unit is no longer than its element
+pub au_fits : (o : Bool) (frame : Frame) (body : List ℕ) → IsBuilt o frame body → length frame.au ≤ length body
+au_fits o frame body b =
+    let head = num 1 (same_mux o) in
+    let mux = spelling_of stream_mux.spelling frame.opening in
+    let slot = slot_text (length frame.au) in
+    let au = flat_map (num 8) frame.au in
+    let whole : bits_of body ≡ (head ++ (mux ++ (slot ++ au))) ++ replicate b.zeros false = b.spelled in
+    omega (arith, length-bits_of body, ap (λ (t : List Bool). length t) whole, length-append (head ++ (mux ++ (slot ++ au))) (replicate b.zeros false), length-append head (mux ++ (slot ++ au)), length-append mux (slot ++ au), length-append slot au, octets_long frame.au)

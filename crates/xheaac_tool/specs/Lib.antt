@@ -6,3 +6,7 @@ pub mod Taking
 pub mod Faults
 pub mod Element
 pub mod Carrying
+pub mod Output
+pub mod Stepping
+pub mod Handing
+pub mod OneFrame

@@ -1,0 +1,95 @@
+-- What the play of one frame does.
+use Rattle.std.specs.Prelude.{◌≡◌, ℕ, ◌+◌, ◌≤◌, ◌⊎◌, Bool, false, List, ◌++◌, IsSome, Option, Some, None, Result, Ok, Err, ℤ}
+use Rattle.std.specs.Io.KnownBytes.{append_known}
+use Rattle.causes.specs.Counts.{Rose}
+use Rattle.usac_cfg.specs.UsacConfig.{IsWellFormed}
+use Rattle.core_iface.specs.Units.{UnitValue}
+use Rattle.core_iface.specs.Decoding.{Definitions}
+use Rattle.core_iface.specs.Answering.{Running, Meaning, stepped, emitted}
+use Rattle.core_iface.specs.Samples.{sample_bytes}
+use Rattle.core_iface.specs.declared.fault.CoreFault.{CoreFault}
+use Rattle.core_iface.specs.declared.fault.CoreFault.TheVariants as cores
+use Rattle.outside.specs.declared.fault.DeviceFault.{DeviceFault}
+use Rattle.outside.specs.declared.fault.DeviceFault.TheVariants as devices
+use Rattle.xheaac_tool.specs.declared.frame.Frame.{Frame}
+use Rattle.xheaac_tool.specs.declared.frame.Opening.{Opening}
+use Rattle.xheaac_tool.specs.declared.frame.ElementFault.{ElementFault}
+use Rattle.xheaac_tool.specs.declared.frame.ElementFault.TheVariants as elements
+use Rattle.xheaac_tool.specs.declared.one_frame.FrameEnd.{FrameEnd}
+use Rattle.xheaac_tool.specs.declared.one_frame.FrameEnd.TheVariants as ends
+use Rattle.xheaac_tool.specs.Carrying.{IsBuilt}
+use Rattle.xheaac_tool.specs.Handing.{WrotePart}
+use Rattle.xheaac_tool.specs.Output.{IsServed, usac_of}
+use Rattle.xheaac_tool.specs.Stepping.{set_up, stepped_by, emitted_by}
+
+abbrev pub from_element : ElementFault → FrameEnd
+from_element elements.NotBuilt = ends.NotBuilt
+from_element (elements.Memory e) = ends.Memory e
+
+abbrev pub from_core : CoreFault → FrameEnd
+from_core cores.Failed = ends.CoreFault
+from_core (cores.Memory e) = ends.Memory e
+
+abbrev pub from_device : DeviceFault → FrameEnd
+from_device devices.Failed = ends.WriteFault
+from_device (devices.Memory e) = ends.Memory e
+
+-- A core can be given the frame: it opens a stream of a well formed configuration, or the core is ready.
+abbrev pub IsOpenable : Option Opening → Option Running → Type 0
+IsOpenable None ready = IsSome ready
+IsOpenable (Some opening) ready = IsWellFormed opening.usac
+
+-- At Ok the unit was stepped and its samples were appended; at a refusal the samples and the units fed are as before.
+abbrev pub Decodes : Definitions → Option Opening → UnitValue → Meaning → Meaning → List ℤ → List ℤ → Result (Unit {0}) CoreFault → Type 0
+Decodes d opening unit old new samples_old samples_new (Ok _) =
+    (new.ready ≡ stepped d (set_up d old.ready opening) unit) × IsSome new.ready × (new.fed ≡ old.fed + 1) × (samples_new ≡ samples_old ++ emitted d (set_up d old.ready opening) unit)
+Decodes d opening unit old new samples_old samples_new (Err f) = (new.fed ≡ old.fed) × (samples_new ≡ samples_old)
+
+-- the counts of faults of out and of the core
+pub record Causes : Type 0 where
+  pub out : ℕ
+  pub core : ℕ
+
+-- What a call with that answer did for a frame that these bytes are. `whole` says what is so where the frame was played,
+-- and the cases below what a refusal leaves.
+pub record Played (d : Definitions) (in_force : Bool) (body : List ℕ) (old new : Meaning) (before after : Option (List ℕ)) : Type 0 where
+  pub frame : Frame
+  pub built : IsBuilt in_force frame body
+  pub ready : new.ready ≡ stepped_by d old.ready frame
+  pub some : IsSome new.ready
+  pub fed : new.fed ≡ old.fed + 1
+  pub written : after ≡ append_known before (sample_bytes (emitted_by d old.ready frame))
+
+-- a part of the frame's bytes was written
+pub record PlayedPart (d : Definitions) (in_force : Bool) (body : List ℕ) (old new : Meaning) (before after : Option (List ℕ)) : Type 0 where
+  pub frame : Frame
+  pub built : IsBuilt in_force frame body
+  pub fed : new.fed ≤ old.fed + 1
+  pub written : WrotePart before after (sample_bytes (emitted_by d old.ready frame))
+
+-- nothing was written
+pub record PlayedNone (old new : Meaning) (before after : Option (List ℕ)) : Type 0 where
+  pub fed : new.fed ≤ old.fed + 1
+  pub written : after ≡ before
+
+abbrev pub Plays : Definitions → Bool → List ℕ → Meaning → Meaning → Option (List ℕ) → Option (List ℕ) → Result (Unit {0}) FrameEnd → Type 0
+Plays d in_force body old new before after (Ok _) = Played d in_force body old new before after
+Plays d in_force body old new before after (Err ends.NotBuilt) =
+    ((frame : Frame) → IsBuilt in_force frame body → ⊥) × (new.fed ≡ old.fed) × (after ≡ before)
+Plays d in_force body old new before after (Err ends.WriteFault) = PlayedPart d in_force body old new before after
+Plays d in_force body old new before after (Err ends.CoreFault) =
+    ((frame : Frame) × IsBuilt in_force frame body) × (new.fed ≡ old.fed) × (after ≡ before)
+Plays d in_force body old new before after (Err (ends.Memory e)) =
+    PlayedPart d in_force body old new before after ⊎ PlayedNone old new before after
+
+-- The count of out rose at a write fault, that of the core at a core fault, and every other count is as before.
+abbrev pub CausedBy : ℕ → ℕ → ℕ → ℕ → Result (Unit {0}) FrameEnd → Type 0
+CausedBy out_old out_new core_old core_new (Ok _) = (out_new ≡ out_old) × (core_new ≡ core_old)
+CausedBy out_old out_new core_old core_new (Err ends.NotBuilt) = (out_new ≡ out_old) × (core_new ≡ core_old)
+CausedBy out_old out_new core_old core_new (Err ends.WriteFault) = Rose out_old out_new × (core_new ≡ core_old)
+CausedBy out_old out_new core_old core_new (Err ends.CoreFault) = (out_new ≡ out_old) × Rose core_old core_new
+CausedBy out_old out_new core_old core_new (Err (ends.Memory e)) = (out_new ≡ out_old) × (core_new ≡ core_old)
+
+-- the core serves what the frame of these bytes puts in force
+abbrev pub IsFrameServed : Definitions → Bool → List ℕ → Type 0
+IsFrameServed d in_force body = (frame : Frame) → IsBuilt in_force frame body → IsServed d (usac_of frame.opening)
