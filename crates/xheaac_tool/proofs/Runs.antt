@@ -5,15 +5,10 @@ use Rattle.std.proofs.lemmas.List.{length-append, append-nil, length-drop}
 use Rattle.std.proofs.lemmas.Bool.{cases_lt}
 use Rattle.xheaac_tool.specs.declared.frame.Frame.{Frame}
 use Rattle.xheaac_tool.specs.Framing.{framed, IsFrameBody, IsPartial, IsLost, BeginsWithFrame}
-use Rattle.xheaac_tool.specs.Carrying.{IsBuilt, Carries, IsLongest}
+use Rattle.xheaac_tool.specs.Carrying.{IsBuilt, Carries, IsLongest, in_force_behind, HasNoFrame}
 use Rattle.xheaac_tool.proofs.Frames.{same_frame}
 use Rattle.xheaac_tool.proofs.Found.{partial-no_frame, each_text, begins-fits, partial-empty}
 use Rattle.xheaac_tool.proofs.BuiltFrames.{one_frame, decided_frame}
-
--- whether a configuration is in force behind frames
-abbrev pub in_force_behind : Bool → List Frame → Bool
-in_force_behind o [] = o
-in_force_behind o (frame ∷ frames) = true
 
 -- what stands behind the text stands behind the rest
 pub carries_more : (o : Bool) (text : List ℕ) (frames : List Frame) (rest more : List ℕ) → Carries o text frames rest → Carries o (text ++ more) frames (rest ++ more)
@@ -49,10 +44,6 @@ compared o text (frame ∷ some) (other ∷ others) rest remains a b =
     in_force_is : (frames : List Frame) (text : List ℕ) (more : List Frame) (remains : List ℕ) → Carries (in_force_behind true frames) text more remains → Carries true text more remains
     in_force_is [] text more remains c = c
     in_force_is (g ∷ frames) text more remains c = c
-
--- no frame of the built form stands at the front, where a configuration is in force or not
-abbrev pub HasNoFrame : Bool → List ℕ → Type 0
-HasNoFrame o rest = (frame : Frame) (body behind : List ℕ) → IsFrameBody body → rest ≡ framed body ++ behind → IsBuilt o frame body → ⊥
 
 -- Frames behind which no further one stands are the most.
 pub stuck_longest : (text : List ℕ) (frames : List Frame) (rest : List ℕ) → Carries false text frames rest → HasNoFrame (in_force_behind false frames) rest → IsLongest text frames rest

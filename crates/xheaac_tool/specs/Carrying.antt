@@ -25,6 +25,15 @@ Carries in_force text [] rest = text ≡ rest
 Carries in_force text (frame ∷ frames) rest =
     (body behind : List ℕ) × IsFrameBody body × (text ≡ framed body ++ behind) × IsBuilt in_force frame body × Carries true behind frames rest
 
+-- whether a configuration is in force behind frames
+abbrev pub in_force_behind : Bool → List Frame → Bool
+in_force_behind in_force [] = in_force
+in_force_behind in_force (frame ∷ frames) = true
+
+-- no frame of the built form stands at the front
+abbrev pub HasNoFrame : Bool → List ℕ → Type 0
+HasNoFrame in_force rest = (frame : Frame) (body behind : List ℕ) → IsFrameBody body → rest ≡ framed body ++ behind → IsBuilt in_force frame body → ⊥
+
 -- These are the most frames of the built form that a front of the text carries, and that is what remains of the text.
 pub record IsLongest (text : List ℕ) (frames : List Frame) (rest : List ℕ) : Type 0 where
   pub carried : Carries false text frames rest

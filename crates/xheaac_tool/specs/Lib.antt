@@ -10,3 +10,7 @@ pub mod Output
 pub mod Stepping
 pub mod Handing
 pub mod OneFrame
+pub mod Texts
+pub mod Causes
+pub mod Played
+pub mod Playing

@@ -10,4 +10,5 @@ mod one_frame;
 mod outcome;
 mod reader;
 mod stream_end;
+mod texts;
 mod unit;

@@ -1,0 +1,74 @@
+-- What the play of a source has done so far, and what it has done at its end, whether the source tells its bytes or not.
+-- `proofs/Endings.antt` proves that this is what the file's bytes say.
+use Rattle.std.specs.Prelude.{◌≡◌, ℕ, ◌+◌, ◌<◌, ◌≤◌, ◌⊎◌, Bool, true, false, List, [], ◌∷◌, ◌++◌, length, IsSome}
+use Rattle.std.specs.declared.option.Option.{Option}
+use Rattle.std.specs.Io.KnownBytes.{prepend_known, append_known, IsAtEnd}
+use Rattle.core_iface.specs.Decoding.{Definitions}
+use Rattle.core_iface.specs.Answering.{Running, Meaning}
+use Rattle.core_iface.specs.Samples.{sample_bytes}
+use Rattle.xheaac_tool.specs.declared.frame.Frame.{Frame}
+use Rattle.xheaac_tool.specs.declared.outcome.Outcome.{Outcome}
+use Rattle.xheaac_tool.specs.declared.outcome.Outcome.TheVariants as is
+use Rattle.xheaac_tool.specs.Framing.{framed, IsFrameBody, IsPartial}
+use Rattle.xheaac_tool.specs.Reading.{Reading, most_bytes}
+use Rattle.xheaac_tool.specs.Carrying.{Carries, IsBuilt, HasNoFrame, in_force_behind}
+use Rattle.xheaac_tool.specs.Stepping.{stepped_through, emitted_through}
+use Rattle.xheaac_tool.specs.Handing.{WrotePart}
+use Rattle.xheaac_tool.specs.Played.{Traces}
+use Rattle.xheaac_tool.specs.Texts.{not_built_text}
+
+-- Between two frames: what was got off the source carries the frames and what the reader holds; they were played.
+pub record GoesOn (d : Definitions) (old now : Meaning) (left_before left_now before written : Option (List ℕ)) (reader : Reading) (count : ℕ) : Type 0 where
+  pub frames : List Frame
+  pub got : List ℕ
+  pub from : left_before ≡ prepend_known got left_now
+  pub taken : reader.taken ≡ length got
+  pub carried : Carries false got frames reader.held
+  pub counted : count ≡ length frames
+  pub ready : now.ready ≡ stepped_through d old.ready frames
+  pub some : 0 < count → IsSome now.ready
+  pub fed : now.fed ≡ old.fed + count
+  pub output : written ≡ append_known before (sample_bytes (emitted_through d old.ready frames))
+
+-- all of the frames was played
+pub record PlayedAll (d : Definitions) (ready : Option Running) (frames : List Frame) (t : Traces) : Type 0 where
+  pub written : t.written_after ≡ append_known t.written_before (sample_bytes (emitted_through d ready frames))
+  pub fed : t.fed_after ≡ t.fed_before + length frames
+
+-- a part of them
+pub record PlayedFront (d : Definitions) (ready : Option Running) (frames : List Frame) (t : Traces) : Type 0 where
+  pub written : WrotePart t.written_before t.written_after (sample_bytes (emitted_through d ready frames))
+  pub fed : t.fed_after ≤ t.fed_before + length frames + 1
+
+-- Why the source is refused behind its frames: no frame of the built form stands there however it goes on; or it ends
+-- within a frame; or it goes on beyond the limit.
+abbrev pub IsRefusal : Bool → List ℕ → List ℕ → List ℕ → Option (List ℕ) → Type 0
+IsRefusal in_force whole beyond rest left =
+    ((beyond ≡ []) × (0 < length rest) × ((more : List ℕ) → HasNoFrame in_force (rest ++ more))) ⊎
+    (((beyond ≡ []) × IsPartial rest × (0 < length rest) × IsAtEnd left) ⊎
+    ((b : ℕ) × (beyond ≡ b ∷ []) × IsPartial rest × (length whole ≡ most_bytes)))
+
+-- a frame of the built form stands at the front
+abbrev pub HasFrame : Bool → List ℕ → Type 0
+HasFrame in_force rest = (frame : Frame) × (body behind : List ℕ) × IsFrameBody body × (rest ≡ framed body ++ behind) × IsBuilt in_force frame body
+
+-- How the play of a source ended: `whole` carries the frames and the rest, and `beyond` was got behind it.
+abbrev pub Stops : Definitions → Option Running → List Frame → List ℕ → List ℕ → List ℕ → Option (List ℕ) → Traces → Outcome → Type 0
+Stops d ready frames whole beyond rest left t is.Done = (beyond ≡ []) × (rest ≡ []) × IsAtEnd left × PlayedAll d ready frames t
+Stops d ready frames whole beyond rest left t (is.Refused words) =
+    IsRefusal (in_force_behind false frames) whole beyond rest left × (words ≡ not_built_text (length frames)) × PlayedAll d ready frames t
+Stops d ready frames whole beyond rest left t is.ReadFault = (beyond ≡ []) × IsPartial rest × PlayedAll d ready frames t
+Stops d ready frames whole beyond rest left t is.WriteFault = PlayedFront d ready frames t
+Stops d ready frames whole beyond rest left t is.CoreFault = HasFrame (in_force_behind false frames) rest × PlayedAll d ready frames t
+Stops d ready frames whole beyond rest left t (is.Memory e) = PlayedFront d ready frames t
+
+pub record PlaysSource (d : Definitions) (ready : Option Running) (left_before left_after : Option (List ℕ)) (t : Traces) (outcome : Outcome) : Type 0 where
+  pub frames : List Frame
+  pub whole : List ℕ
+  pub beyond : List ℕ
+  pub rest : List ℕ
+  pub from : left_before ≡ prepend_known (whole ++ beyond) left_after
+  pub within : length (whole ++ beyond) ≤ most_bytes + 1
+  pub counts : length whole ≤ most_bytes
+  pub carried : Carries false whole frames rest
+  pub stops : Stops d ready frames whole beyond rest left_after t outcome
