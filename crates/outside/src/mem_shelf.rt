@@ -18,7 +18,6 @@ use std::marker::Model;
 /// the reads that were asked for.
 #[derive(Drop)]
 pub struct MemShelf {
-    alloc: Global,
     piece: usize,
     plan: FaultPlan,
     held: Vec<NamedBytes>,
@@ -44,7 +43,6 @@ impl MemShelf {
         ensures { IfOk result (λ shelf. shelf ≡ record { piece = piece; plan = fresh failing.now; held = []; begun = [] }) }
     {
         Ok(MemShelf {
-            alloc,
             piece,
             plan: FaultPlan::new(alloc, failing)?,
             held: Vec::new(alloc),
@@ -62,7 +60,7 @@ impl MemShelf {
         ensures kept { (self.new.piece ≡ self.old.piece) × (self.new.plan ≡ self.old.plan) × (self.new.begun ≡ self.old.begun) }
         ensures refused { OnErr result (self.new ≡ self.old) }
     {
-        let one = NamedBytes::copy_of(self.alloc, name, bytes)?;
+        let one = NamedBytes::copy_of(*self.held.allocator(), name, bytes)?;
         self.held.push(one)?;
         Ok(())
     }

@@ -6,3 +6,4 @@ pub mod Runs
 pub mod Outputs
 pub mod Handing
 pub mod FrameSteps
+pub mod Going

@@ -7,6 +7,10 @@ use Rattle.core_iface.specs.Decoding.{Definitions}
 use Rattle.core_iface.specs.Answering.{Running, Meaning}
 use Rattle.core_iface.specs.Samples.{sample_bytes}
 use Rattle.xheaac_tool.specs.declared.frame.Frame.{Frame}
+use Rattle.xheaac_tool.specs.declared.one_frame.FrameEnd.{FrameEnd}
+use Rattle.xheaac_tool.specs.declared.one_frame.FrameEnd.TheVariants as frames
+use Rattle.xheaac_tool.specs.declared.stream_end.StreamEnd.{StreamEnd}
+use Rattle.xheaac_tool.specs.declared.stream_end.StreamEnd.TheVariants as streams
 use Rattle.xheaac_tool.specs.declared.outcome.Outcome.{Outcome}
 use Rattle.xheaac_tool.specs.declared.outcome.Outcome.TheVariants as is
 use Rattle.xheaac_tool.specs.Framing.{framed, IsFrameBody, IsPartial}
@@ -72,3 +76,27 @@ pub record PlaysSource (d : Definitions) (ready : Option Running) (left_before l
   pub counts : length whole ≤ most_bytes
   pub carried : Carries false whole frames rest
   pub stops : Stops d ready frames whole beyond rest left_after t outcome
+
+-- a refusal of the frame with that number, or no memory for its text
+abbrev pub IsRefusedAt : ℕ → Outcome → Type 0
+IsRefusedAt frame is.Done = ⊥
+IsRefusedAt frame (is.Refused words) = words ≡ not_built_text frame
+IsRefusedAt frame is.ReadFault = ⊥
+IsRefusedAt frame is.WriteFault = ⊥
+IsRefusedAt frame is.CoreFault = ⊥
+IsRefusedAt frame (is.Memory e) = Unit {0}
+
+-- what the command ends with where the stream has no next frame
+abbrev pub Becomes : StreamEnd → ℕ → Outcome → Type 0
+Becomes streams.ReadFault frame outcome = outcome ≡ is.ReadFault
+Becomes streams.SyncLost frame outcome = IsRefusedAt frame outcome
+Becomes streams.Truncated frame outcome = IsRefusedAt frame outcome
+Becomes streams.TooLarge frame outcome = IsRefusedAt frame outcome
+Becomes (streams.Memory e) frame outcome = outcome ≡ is.Memory e
+
+-- what it ends with at a frame that was not played
+abbrev pub BecomesOf : FrameEnd → ℕ → Outcome → Type 0
+BecomesOf frames.NotBuilt frame outcome = IsRefusedAt frame outcome
+BecomesOf frames.WriteFault frame outcome = outcome ≡ is.WriteFault
+BecomesOf frames.CoreFault frame outcome = outcome ≡ is.CoreFault
+BecomesOf (frames.Memory e) frame outcome = outcome ≡ is.Memory e

@@ -8,6 +8,7 @@ mod framing;
 mod give;
 mod one_frame;
 mod outcome;
+mod play;
 mod reader;
 mod stream_end;
 mod texts;

@@ -1,0 +1,57 @@
+use Rattle.std.proofs.Common.{◌≡◌, ◌≤◌, arith, rules, refl, ◌∙◌}
+use Rattle.xheaac_tool.proofs.Going.{starts, goes_on, done, ended, stopped, falls, bounds}
+use Rattle.xheaac_tool.proofs.play.play_source.Goals as goal
+
+pub frames-init : goal.frames-init
+frames-init g c =
+    let held = c.new-reader.ensures.held in
+    let taken = c.new-reader.ensures.taken in
+    record {
+      so_far = starts g.C.Core.does _ _ _ _ held taken;
+      within = rw taken (omega arith);
+      held = rw (held, taken) (omega arith);
+      many = rw (held, taken) (omega arith);
+      source_faults = refl;
+      out_faults = refl;
+      core_faults = refl;
+      other = refl;
+      calm_source = λ h. h;
+      calm_out = λ h. h;
+      calm_core = λ h. h;
+    }
+
+pub returns-in-Ok-None-clause-plays : goal.returns-in-Ok-None-clause-plays
+returns-in-Ok-None-clause-plays g c =
+    let next = rw c.in-Ok-None.field-0-is at c.in-Ok-None.ensures in
+    done g.C.Core.does _ _ _ _ _ _ _ _ _ _ _ _ c.frames.invariant.so_far next.takes next.limit
+
+pub returns-in-Err-clause-plays : goal.returns-in-Err-clause-plays
+returns-in-Err-clause-plays g c = ended g.C.Core.does _ _ _ _ _ _ _ _ _ _ _ _ c.in-Err.end _ c.frames.invariant.so_far c.in-Err.ensures.takes c.in-Err.ensures.limit c.ended_by.ensures
+
+pub returns-in-Err-play_frame-clause-plays : goal.returns-in-Err-play_frame-clause-plays
+returns-in-Err-play_frame-clause-plays g c =
+    let next = rw c.in-Ok-Some.field-0-is at c.in-Ok-Some.ensures in
+    stopped g.C.Core.does _ _ _ _ _ _ _ _ _ _ _ _ _ _ _ _ c.in-Err-play_frame.end _ c.frames.invariant.so_far next.takes next.limit c.body.ensures c.in-Err-play_frame.ensures.plays c.stopped_by.ensures
+
+pub frames-smaller : goal.frames-smaller
+frames-smaller g c =
+    let next = rw c.in-Ok-Some.field-0-is at c.in-Ok-Some.ensures in
+    falls _ _ _ _ _ _ _ _ next.limit next.takes c.pass.ensures
+
+pub frames-preserved : goal.frames-preserved
+frames-preserved g c =
+    let next = rw c.in-Ok-Some.field-0-is at c.in-Ok-Some.ensures in
+    let b = bounds _ _ _ c.frames.count _ _ _ _ _ next.limit next.takes c.pass.ensures c.frames.invariant.held c.frames.invariant.many in
+    record {
+      so_far = goes_on g.C.Core.does _ _ _ _ _ _ _ _ _ _ _ _ _ _ _ _ _ c.frames.invariant.so_far next.takes c.body.ensures c.pass.ensures c.in-Ok.ensures.plays;
+      within = b.0;
+      held = b.1;
+      many = b.2;
+      source_faults = next.takes.caused ∙ c.frames.invariant.source_faults;
+      out_faults = c.in-Ok.ensures.caused.0 ∙ c.frames.invariant.out_faults;
+      core_faults = c.in-Ok.ensures.caused.1 ∙ c.frames.invariant.core_faults;
+      other = search rules;
+      calm_source = search rules;
+      calm_out = search rules;
+      calm_core = search rules;
+    }

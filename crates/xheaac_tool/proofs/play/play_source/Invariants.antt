@@ -1,0 +1,27 @@
+use Rattle.std.proofs.Common.{◌≡◌, ◌+◌, ◌-◌, ◌*◌, ◌≤◌, length}
+use Rattle.xheaac_tool.specs.Reading.{most_bytes}
+use Rattle.xheaac_tool.specs.Playing.{GoesOn}
+use Rattle.xheaac_tool.proofs.play.play_source.Given as goal
+
+abbrev pub invariant-frames : goal.invariant-frames
+invariant-frames g l =
+    let source = g.S.Source in
+    let sink = g.K.Sink in
+    let core = g.C.Core in
+    record {
+      so_far : GoesOn core.does (core.meaning l.initial.core) (core.meaning l.core) (source.left l.initial.source) (source.left l.source)
+          (sink.written l.initial.out) (sink.written l.out) l.reader l.count;
+      within : l.reader.taken ≤ most_bytes;
+      held : length l.reader.held ≤ l.reader.taken;
+      many : 3 * l.count + length l.reader.held ≤ l.reader.taken;
+      source_faults : source.faults l.source ≡ source.faults l.initial.source;
+      out_faults : sink.faults l.out ≡ sink.faults l.initial.out;
+      core_faults : (core.meaning l.core).faults ≡ (core.meaning l.initial.core).faults;
+      other : source.other l.source ≡ source.other l.initial.source;
+      calm_source : source.calm l.initial.source → source.calm l.source;
+      calm_out : sink.calm l.initial.out → sink.calm l.out;
+      calm_core : core.IsCalm l.initial.core → core.IsCalm l.core;
+    }
+
+abbrev pub decreases-frames : goal.decreases-frames
+decreases-frames g l = most_bytes - l.reader.taken + length l.reader.held
