@@ -70,11 +70,11 @@ output_more d ready mid_ready fs f e =
     sym (sample_bytes-append (emitted_through d ready fs) (emitted_by d mid_ready f)) ∙ ap (λ (r : Option Running). sample_bytes (emitted_through d ready fs ++ emitted_by d r f)) e ∙ ap sample_bytes (sym (emitted_push d ready fs f))
 
 -- what stands at the front of the bytes that were got, behind the frames
-frame_here : (r2 : Reading) (n : ℕ) (body : List ℕ) → BeginsWithFrame n r2.held → body ≡ take n (drop 3 r2.held) → IsFrameBody body × (r2.held ≡ framed body ++ drop (3 + n) r2.held)
+pub frame_here : (r2 : Reading) (n : ℕ) (body : List ℕ) → BeginsWithFrame n r2.held → body ≡ take n (drop 3 r2.held) → IsFrameBody body × (r2.held ≡ framed body ++ drop (3 + n) r2.held)
 frame_here r2 n body b e = (subst IsFrameBody (sym e) (begins-fits n r2.held b), b.spelled ∙ ap (λ (x : List ℕ). framed x ++ drop (3 + n) r2.held) (sym e))
 
 -- what was got carries the frames and what is held
-carried_on : (fs : List Frame) (got more : List ℕ) (r1 r2 : Reading) → Carries false got fs r1.held → r2 ≡ grown r1 more → Carries false (got ++ more) fs r2.held
+pub carried_on : (fs : List Frame) (got more : List ℕ) (r1 r2 : Reading) → Carries false got fs r1.held → r2 ≡ grown r1 more → Carries false (got ++ more) fs r2.held
 carried_on fs got more r1 r2 c e = subst (λ (t : List ℕ). Carries false (got ++ more) fs t) (sym (ap (λ (r : Reading). r.held) e)) (carries_more false got fs r1.held more c)
 
 -- one frame more

@@ -7,3 +7,4 @@ pub mod Outputs
 pub mod Handing
 pub mod FrameSteps
 pub mod Going
+pub mod Endings

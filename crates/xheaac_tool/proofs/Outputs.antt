@@ -24,7 +24,7 @@ stepped_push d ready [] frame = refl
 stepped_push d ready (first ∷ frames) frame = stepped_push d (stepped_by d ready first) frames frame
 
 -- a later frame opens nothing
-later : (frame : Frame) (body : List ℕ) → IsBuilt true frame body → frame.opening ≡ None
+pub later : (frame : Frame) (body : List ℕ) → IsBuilt true frame body → frame.opening ≡ None
 later frame body b = none_of frame.opening b.fits.1.0.0
   where
     none_of : (o : Option Opening) → is_some o ≡ false → o ≡ None
@@ -57,3 +57,9 @@ emitted_is d ready text (frame ∷ frames) rest c =
 
 pub output_is : (d : Definitions) (ready : Option Running) (text : List ℕ) (frames : List Frame) (rest : List ℕ) → Carries false text frames rest → sample_bytes (emitted_through d ready frames) ≡ output d frames
 output_is d ready text frames rest c = ap sample_bytes (emitted_is d ready text frames rest c)
+
+pub emitted_append : (d : Definitions) (ready : Option Running) (frames more : List Frame) → emitted_through d ready (frames ++ more) ≡ emitted_through d ready frames ++ emitted_through d (stepped_through d ready frames) more
+emitted_append d ready [] more = refl
+emitted_append d ready (first ∷ frames) more =
+    ap (λ (xs : List ℤ). emitted_by d ready first ++ xs) (emitted_append d (stepped_by d ready first) frames more)
+      ∙ sym (append_assoc (emitted_by d ready first) (emitted_through d (stepped_by d ready first) frames) (emitted_through d (stepped_through d (stepped_by d ready first) frames) more))

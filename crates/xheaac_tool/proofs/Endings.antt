@@ -1,0 +1,152 @@
+-- What the play of a source did is what the bytes of the file say.
+use Rattle.std.proofs.Common.{◌≡◌, ℕ, zero, suc, ◌+◌, ◌-◌, ◌<◌, ◌≤◌, Bool, true, false, ltb, List, [], ◌∷◌, ◌++◌, length, take, drop, Option, Some, None, Result, Ok, ℤ, refl, sym, ap, subst, ◌∙◌, append_assoc, arith, inl, inr}
+use Rattle.std.specs.Prelude.{◌⊎◌}
+use Rattle.std.proofs.lemmas.Bool.{cases_lt}
+use Rattle.std.proofs.lemmas.List.{length-append, append-nil, take_all, take-append-le, take_at}
+use Rattle.std.proofs.Math.Seq.{take-append-add}
+use Rattle.std.specs.Io.KnownBytes.{prepend_known, append_known, IsAtEnd}
+use Rattle.core_iface.specs.Decoding.{Definitions}
+use Rattle.core_iface.specs.Answering.{Running, Meaning}
+use Rattle.core_iface.specs.Samples.{sample_bytes, sample_bytes-append}
+use Rattle.xheaac_tool.specs.declared.frame.Frame.{Frame}
+use Rattle.xheaac_tool.specs.declared.outcome.Outcome.{Outcome}
+use Rattle.xheaac_tool.specs.declared.outcome.Outcome.TheVariants as is
+use Rattle.xheaac_tool.specs.Framing.{framed, IsFrameBody, IsPartial, BeginsWithFrame}
+use Rattle.xheaac_tool.specs.Reading.{Reading, most_bytes}
+use Rattle.xheaac_tool.specs.Taking.{Takes}
+use Rattle.xheaac_tool.specs.Carrying.{Carries, IsBuilt, IsLongest, HasNoFrame, in_force_behind}
+use Rattle.xheaac_tool.specs.Stepping.{stepped_through, emitted_through}
+use Rattle.xheaac_tool.specs.Output.{output, config_of, usac_of, IsServed}
+use Rattle.xheaac_tool.specs.Handing.{WrotePart}
+use Rattle.xheaac_tool.specs.OneFrame.{IsFrameServed}
+use Rattle.xheaac_tool.specs.Texts.{not_built_text}
+use Rattle.xheaac_tool.specs.Played.{Traces, WroteAll, WroteFront, IsWhole, IsBroken, Ends, PlaysFile}
+use Rattle.xheaac_tool.specs.Playing.{GoesOn, PlayedAll, PlayedFront, IsRefusal, HasFrame, Stops, PlaysSource}
+use Rattle.xheaac_tool.proofs.Found.{partial-empty}
+use Rattle.xheaac_tool.proofs.Runs.{carries_more, carries_push, stuck_longest, partial_stuck, first_of_longest, exists_longest}
+use Rattle.xheaac_tool.proofs.Outputs.{output_is, emitted_append, later}
+use Rattle.xheaac_tool.proofs.Going.{carried_on, frame_here, in_force_is}
+use Rattle.xheaac_tool.proofs.Pieces.{prepend-prepend}
+
+-- the bytes of a source that tells
+pub told : (text got : List ℕ) (left : Option (List ℕ)) → Some text ≡ prepend_known got left → (more : List ℕ) × (left ≡ Some more) × (text ≡ got ++ more)
+told text got None e = absurd cc
+told text got (Some more) e = (more, refl, cc)
+
+-- the bytes that count, of which a front is known
+counted : (text whole more : List ℕ) → text ≡ whole ++ more → length whole ≤ most_bytes → take most_bytes text ≡ whole ++ take (most_bytes - length whole) more
+counted text whole more e le =
+    let k : length whole + (most_bytes - length whole) ≡ most_bytes = omega arith in
+    ap (λ (x : List ℕ). take most_bytes x) e ∙ ap (λ (n : ℕ). take n (whole ++ more)) (sym k) ∙ take-append-add whole more (most_bytes - length whole)
+
+all_counted : (text : List ℕ) → length text ≤ most_bytes → take most_bytes text ≡ text
+all_counted text le = take_all most_bytes text le
+
+wrote_all : (d : Definitions) (ready : Option Running) (text : List ℕ) (fs : List Frame) (rest : List ℕ) (t : Traces) → Carries false text fs rest → PlayedAll d ready fs t → WroteAll d fs t
+wrote_all d ready text fs rest t c p = record { written = p.written ∙ ap (λ (x : List ℕ). append_known t.written_before x) (output_is d ready text fs rest c); fed = p.fed }
+
+-- a front of a front
+front_of_front : (k : ℕ) (xs ys : List ℕ) → (j : ℕ) × (take k xs ≡ take j (xs ++ ys))
+front_of_front k xs ys =
+    elim (cases_lt k (length xs)) [
+      | inl lt ↦ (k, sym (take-append-le k xs ys (omega arith)))
+      | inr le ↦ (length xs, take_all k xs le ∙ sym (take_at xs ys (length xs) refl))
+    ]
+
+wrote_front : (d : Definitions) (ready : Option Running) (text : List ℕ) (fs more : List Frame) (rest : List ℕ) (t : Traces) → Carries false text (fs ++ more) rest → PlayedFront d ready fs t → WroteFront d (fs ++ more) t
+wrote_front d ready text fs more rest t c p =
+    let xs = sample_bytes (emitted_through d ready fs) in
+    let ys = sample_bytes (emitted_through d (stepped_through d ready fs) more) in
+    let whole : xs ++ ys ≡ output d (fs ++ more) = sym (sample_bytes-append (emitted_through d ready fs) (emitted_through d (stepped_through d ready fs) more)) ∙ ap sample_bytes (sym (emitted_append d ready fs more)) ∙ output_is d ready text (fs ++ more) rest c in
+    let f = front_of_front p.written.0 xs ys in
+    record { written = (f.0, p.written.1 ∙ ap (λ (x : List ℕ). append_known t.written_before x) (f.1 ∙ ap (λ (x : List ℕ). take f.0 x) whole)); fed = omega (arith, p.fed, length-append fs more) }
+
+-- the frames that were played are the first of those that the bytes that count carry
+played_first : (text whole beyond : List ℕ) (fs : List Frame) (rest : List ℕ) → text ≡ whole ++ beyond → length whole ≤ most_bytes → Carries false whole fs rest
+    → (more : List Frame) × (remains : List ℕ) × IsLongest (take most_bytes text) (fs ++ more) remains × Carries (in_force_behind false fs) (rest ++ take (most_bytes - length whole) beyond) more remains
+played_first text whole beyond fs rest e le c =
+    let x = take (most_bytes - length whole) beyond in
+    let longest = exists_longest (take most_bytes text) in
+    let here : Carries false (take most_bytes text) fs (rest ++ x) = subst (λ (t : List ℕ). Carries false t fs (rest ++ x)) (sym (counted text whole beyond e le)) (carries_more false whole fs rest x c) in
+    let first = first_of_longest (take most_bytes text) fs (rest ++ x) longest.0 longest.1 here longest.2 in
+    (first.0, longest.1, subst (λ (gs : List Frame). IsLongest (take most_bytes text) gs longest.1) first.1 longest.2, first.2)
+
+fronts : (d : Definitions) (ready : Option Running) (text whole beyond : List ℕ) (fs : List Frame) (rest : List ℕ) (t : Traces) → text ≡ whole ++ beyond → length whole ≤ most_bytes → Carries false whole fs rest → PlayedFront d ready fs t
+    → (frames : List Frame) × (remains : List ℕ) × IsLongest (take most_bytes text) frames remains × WroteFront d frames t
+fronts d ready text whole beyond fs rest t e le c p =
+    let f = played_first text whole beyond fs rest e le c in
+    (fs ++ f.0, f.1, f.2, wrote_front d ready (take most_bytes text) fs f.0 f.1 t f.2.carried p)
+
+-- the refusal behind the frames
+broken : (text whole beyond rest left_text : List ℕ) (left : Option (List ℕ)) (fs : List Frame) → left ≡ Some left_text → text ≡ (whole ++ beyond) ++ left_text → length whole ≤ most_bytes → Carries false whole fs rest
+    → IsRefusal (in_force_behind false fs) whole beyond rest left → (remains : List ℕ) × IsBroken text fs remains
+broken text whole beyond rest left_text left fs here e le c (inl (none, some, stuck)) =
+    let parts : text ≡ whole ++ left_text = e ∙ ap (λ (x : List ℕ). (whole ++ x) ++ left_text) none ∙ ap (λ (x : List ℕ). x ++ left_text) (append-nil whole) in
+    let x = take (most_bytes - length whole) left_text in
+    let carried : Carries false (take most_bytes text) fs (rest ++ x) = subst (λ (t : List ℕ). Carries false t fs (rest ++ x)) (sym (counted text whole left_text parts le)) (carries_more false whole fs rest x c) in
+    (rest ++ x, record { longest = stuck_longest (take most_bytes text) fs (rest ++ x) carried (stuck x); more = inl (omega (arith, some, length-append rest x)) })
+broken text whole beyond rest left_text left fs here e le c (inr (inl (none, part, some, at_end))) =
+    let nothing : left_text ≡ [] = subst IsAtEnd here at_end in
+    let same : text ≡ whole = e ∙ ap (λ (x : List ℕ). (whole ++ beyond) ++ x) nothing ∙ append-nil (whole ++ beyond) ∙ ap (λ (x : List ℕ). whole ++ x) none ∙ append-nil whole in
+    let all : take most_bytes text ≡ whole = ap (λ (x : List ℕ). take most_bytes x) same ∙ all_counted whole le in
+    (rest, record { longest = subst (λ (t : List ℕ). IsLongest t fs rest) (sym all) (stuck_longest whole fs rest c (partial_stuck (in_force_behind false fs) rest part)); more = inl some })
+broken text whole beyond rest left_text left fs here e le c (inr (inr (b, one, part, full))) =
+    let parts : text ≡ whole ++ (beyond ++ left_text) = e ∙ append_assoc whole beyond left_text in
+    let none : most_bytes - length whole ≡ 0 = omega arith in
+    let all : take most_bytes text ≡ whole = counted text whole (beyond ++ left_text) parts le ∙ ap (λ (n : ℕ). whole ++ take n (beyond ++ left_text)) none ∙ append-nil whole in
+    (rest, record { longest = subst (λ (t : List ℕ). IsLongest t fs rest) (sym all) (stuck_longest whole fs rest c (partial_stuck (in_force_behind false fs) rest part));
+      more = inr (omega (arith, ap (λ (x : List ℕ). length x) parts, length-append whole (beyond ++ left_text), length-append beyond left_text, ap (λ (x : List ℕ). length x) one, full)) })
+
+ends_by : (d : Definitions) (ready : Option Running) (text left_text : List ℕ) (left : Option (List ℕ)) (t : Traces) (outcome : Outcome) (p : PlaysSource d ready (Some text) left t outcome) → left ≡ Some left_text → text ≡ (p.whole ++ p.beyond) ++ left_text
+    → Ends d text (p.whole ++ p.beyond) t outcome
+ends_by d ready text left_text left t is.Done p here e =
+    let s = p.stops in
+    let nothing : left_text ≡ [] = subst IsAtEnd here s.2 in
+    let same : text ≡ p.whole = e ∙ ap (λ (x : List ℕ). (p.whole ++ p.beyond) ++ x) nothing ∙ append-nil (p.whole ++ p.beyond) ∙ ap (λ (x : List ℕ). p.whole ++ x) s.0 ∙ append-nil p.whole in
+    let all : take most_bytes text ≡ p.whole = ap (λ (x : List ℕ). take most_bytes x) same ∙ all_counted p.whole p.counts in
+    let carried : Carries false p.whole p.frames [] = subst (λ (x : List ℕ). Carries false p.whole p.frames x) s.1 p.carried in
+    (p.frames, record { longest = subst (λ (x : List ℕ). IsLongest x p.frames []) (sym all) (stuck_longest p.whole p.frames [] carried (partial_stuck (in_force_behind false p.frames) [] partial-empty));
+      within = omega (arith, ap (λ (x : List ℕ). length x) same, p.counts) }, wrote_all d ready p.whole p.frames p.rest t p.carried s.3)
+ends_by d ready text left_text left t (is.Refused words) p here e =
+    let s = p.stops in
+    let b = broken text p.whole p.beyond p.rest left_text left p.frames here e p.counts p.carried s.0 in
+    (p.frames, b.0, b.1, s.1, wrote_all d ready p.whole p.frames p.rest t p.carried s.2)
+ends_by d ready text left_text left t is.ReadFault p here e =
+    let s = p.stops in
+    let same : p.whole ++ p.beyond ≡ p.whole = ap (λ (x : List ℕ). p.whole ++ x) s.0 ∙ append-nil p.whole in
+    (p.frames, p.rest, subst (λ (x : List ℕ). IsLongest x p.frames p.rest) (sym same) (stuck_longest p.whole p.frames p.rest p.carried (partial_stuck (in_force_behind false p.frames) p.rest s.1)), s.1, wrote_all d ready p.whole p.frames p.rest t p.carried s.2)
+ends_by d ready text left_text left t is.WriteFault p here e =
+    fronts d ready text p.whole (p.beyond ++ left_text) p.frames p.rest t (e ∙ append_assoc p.whole p.beyond left_text) p.counts p.carried p.stops
+ends_by d ready text left_text left t is.CoreFault p here e =
+    let s = p.stops in
+    let h = s.0 in
+    let with_next = carries_push false p.whole p.frames p.rest h.0 h.1 h.2 p.carried h.3 h.4 h.5 in
+    let f = played_first text p.whole (p.beyond ++ left_text) (p.frames ++ h.0 ∷ []) h.2 (e ∙ append_assoc p.whole p.beyond left_text) p.counts with_next in
+    let others : List Frame = h.0 ∷ f.0 in
+    (p.frames, others, f.1, subst (λ (gs : List Frame). IsLongest (take most_bytes text) gs f.1) (append_assoc p.frames (h.0 ∷ []) f.0) f.2, omega arith, wrote_all d ready p.whole p.frames p.rest t p.carried s.1)
+ends_by d ready text left_text left t (is.Memory x) p here e =
+    fronts d ready text p.whole (p.beyond ++ left_text) p.frames p.rest t (e ∙ append_assoc p.whole p.beyond left_text) p.counts p.carried p.stops
+
+pub plays_file : (d : Definitions) (ready : Option Running) (text : List ℕ) (left : Option (List ℕ)) (t : Traces) (outcome : Outcome) → PlaysSource d ready (Some text) left t outcome → PlaysFile d text left t outcome
+plays_file d ready text left t outcome p =
+    let k = told text (p.whole ++ p.beyond) left p.from in
+    record { taken = p.whole ++ p.beyond; from = p.from; within = p.within; ends = ends_by d ready text k.0 left t outcome p k.1 k.2 }
+
+-- A core that serves the configuration of the first frame serves every frame.
+pub frame_served : (d : Definitions) (old mid : Meaning) (text : List ℕ) (left1 left2 before w1 : Option (List ℕ)) (r1 r2 : Reading) (count n f1 f2 : ℕ) (body : List ℕ)
+    → GoesOn d old mid (Some text) left1 before w1 r1 count → Takes most_bytes r1 r2 (record { left = left1; faults = f1 }) (record { left = left2; faults = f2 }) (Ok (Some n)) → r2.taken ≤ most_bytes → body ≡ take n (drop 3 r2.held)
+    → ((frames : List Frame) (rest : List ℕ) → IsLongest (take most_bytes text) frames rest → IsServed d (config_of frames)) → IsFrameServed d (ltb 0 count) body
+frame_served d old mid text left1 left2 before w1 r1 r2 count n f1 f2 body s t limit body-is serves frame built =
+    let here = frame_here r2 n body t.answered.1 body-is in
+    let b = subst (λ (o : Bool). IsBuilt o frame body) (in_force_is s.frames count s.counted) built in
+    let whole = s.got ++ t.got in
+    let carried = carries_push false whole s.frames r2.held frame body (drop (3 + n) r2.held) (carried_on s.frames s.got t.got r1 r2 s.carried t.answered.0) here.0 here.1 b in
+    let from : Some text ≡ prepend_known whole left2 = s.from ∙ ap (prepend_known s.got) t.from ∙ prepend-prepend s.got t.got left2 in
+    let k = told text whole left2 from in
+    let le : length whole ≤ most_bytes = omega (arith, limit, ap (λ (r : Reading). r.taken) t.answered.0, length-append s.got t.got, s.taken) in
+    let f = played_first text whole k.0 (s.frames ++ frame ∷ []) (drop (3 + n) r2.held) k.2 le carried in
+    by_place s.frames b f.0 (serves ((s.frames ++ frame ∷ []) ++ f.0) f.1 f.2)
+  where
+    by_place : (fs : List Frame) → IsBuilt (in_force_behind false fs) frame body → (more : List Frame) → IsServed d (config_of ((fs ++ frame ∷ []) ++ more)) → IsServed d (usac_of frame.opening)
+    by_place [] b more h = h
+    by_place (g ∷ fs) b more h = rw (later frame body b) tt
