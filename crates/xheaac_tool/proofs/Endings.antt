@@ -1,7 +1,9 @@
 -- What the play of a source did is what the bytes of the file say.
-use Rattle.std.proofs.Common.{◌≡◌, ℕ, zero, suc, ◌+◌, ◌-◌, ◌<◌, ◌≤◌, Bool, true, false, ltb, List, [], ◌∷◌, ◌++◌, length, take, drop, Option, Some, None, Result, Ok, ℤ, refl, sym, ap, subst, ◌∙◌, append_assoc, arith, inl, inr}
+use Rattle.std.proofs.Common.{◌≡◌, ℕ, zero, suc, ◌+◌, ◌-◌, ◌<◌, ◌≤◌, Bool, true, false, eqb, ltb, List, [], ◌∷◌, ◌++◌, length, take, drop, Option, Some, None, Result, Ok, ℤ, refl, sym, ap, subst, ◌∙◌, append_assoc, arith, inl, inr}
 use Rattle.std.specs.Prelude.{◌⊎◌}
-use Rattle.std.proofs.lemmas.Bool.{cases_lt}
+use Rattle.std.specs.declared.alloc.AllocError.{AllocError}
+use Rattle.std.proofs.lemmas.Bool.{cases_lt, lt-ltb, le-ltb, ne_eqb}
+use Rattle.outside.specs.Other.{all_but}
 use Rattle.std.proofs.lemmas.List.{length-append, append-nil, take_all, take-append-le, take_at}
 use Rattle.std.proofs.Math.Seq.{take-append-add}
 use Rattle.std.specs.Io.KnownBytes.{prepend_known, append_known, IsAtEnd}
@@ -20,12 +22,12 @@ use Rattle.xheaac_tool.specs.Output.{output, config_of, usac_of, IsServed}
 use Rattle.xheaac_tool.specs.Handing.{WrotePart}
 use Rattle.xheaac_tool.specs.OneFrame.{IsFrameServed}
 use Rattle.xheaac_tool.specs.Texts.{not_built_text}
-use Rattle.xheaac_tool.specs.Played.{Traces, WroteAll, WroteFront, IsWhole, IsBroken, Ends, PlaysFile}
+use Rattle.xheaac_tool.specs.Played.{Traces, WroteAll, WroteFront, IsWhole, IsBroken, Ends, PlaysFile, remains_of}
 use Rattle.xheaac_tool.specs.Playing.{GoesOn, PlayedAll, PlayedFront, IsRefusal, HasFrame, Stops, PlaysSource}
 use Rattle.xheaac_tool.proofs.Found.{partial-empty}
 use Rattle.xheaac_tool.proofs.Runs.{carries_more, carries_push, stuck_longest, partial_stuck, first_of_longest, exists_longest}
 use Rattle.xheaac_tool.proofs.Outputs.{output_is, emitted_append, later}
-use Rattle.xheaac_tool.proofs.Going.{carried_on, frame_here, in_force_is}
+use Rattle.xheaac_tool.proofs.Going.{carried_on, frame_here, in_force_is, prepend-none, append-none}
 use Rattle.xheaac_tool.proofs.Pieces.{prepend-prepend}
 
 -- the bytes of a source that tells
@@ -93,9 +95,13 @@ broken text whole beyond rest left_text left fs here e le c (inr (inl (none, par
 broken text whole beyond rest left_text left fs here e le c (inr (inr (b, one, part, full))) =
     let parts : text ≡ whole ++ (beyond ++ left_text) = e ∙ append_assoc whole beyond left_text in
     let none : most_bytes - length whole ≡ 0 = omega arith in
-    let all : take most_bytes text ≡ whole = counted text whole (beyond ++ left_text) parts le ∙ ap (λ (n : ℕ). whole ++ take n (beyond ++ left_text)) none ∙ append-nil whole in
-    (rest, record { longest = subst (λ (t : List ℕ). IsLongest t fs rest) (sym all) (stuck_longest whole fs rest c (partial_stuck (in_force_behind false fs) rest part));
-      more = inr (omega (arith, ap (λ (x : List ℕ). length x) parts, length-append whole (beyond ++ left_text), length-append beyond left_text, ap (λ (x : List ℕ). length x) one, full)) })
+    let all : take most_bytes text ≡ whole = counted text whole (beyond ++ left_text) parts le ∙ ap (λ (n : ℕ). whole ++ take n (beyond ++ left_text)) none ∙ append-nil whole in (
+      rest,
+      record {
+        longest = subst (λ (t : List ℕ). IsLongest t fs rest) (sym all) (stuck_longest whole fs rest c (partial_stuck (in_force_behind false fs) rest part));
+        more = inr (omega (arith, ap (λ (x : List ℕ). length x) parts, length-append whole (beyond ++ left_text), length-append beyond left_text, ap (λ (x : List ℕ). length x) one, full));
+      },
+    )
 
 ends_by : (d : Definitions) (ready : Option Running) (text left_text : List ℕ) (left : Option (List ℕ)) (t : Traces) (outcome : Outcome) (p : PlaysSource d ready (Some text) left t outcome) → left ≡ Some left_text → text ≡ (p.whole ++ p.beyond) ++ left_text
     → Ends d text (p.whole ++ p.beyond) t outcome
@@ -104,9 +110,14 @@ ends_by d ready text left_text left t is.Done p here e =
     let nothing : left_text ≡ [] = subst IsAtEnd here s.2 in
     let same : text ≡ p.whole = e ∙ ap (λ (x : List ℕ). (p.whole ++ p.beyond) ++ x) nothing ∙ append-nil (p.whole ++ p.beyond) ∙ ap (λ (x : List ℕ). p.whole ++ x) s.0 ∙ append-nil p.whole in
     let all : take most_bytes text ≡ p.whole = ap (λ (x : List ℕ). take most_bytes x) same ∙ all_counted p.whole p.counts in
-    let carried : Carries false p.whole p.frames [] = subst (λ (x : List ℕ). Carries false p.whole p.frames x) s.1 p.carried in
-    (p.frames, record { longest = subst (λ (x : List ℕ). IsLongest x p.frames []) (sym all) (stuck_longest p.whole p.frames [] carried (partial_stuck (in_force_behind false p.frames) [] partial-empty));
-      within = omega (arith, ap (λ (x : List ℕ). length x) same, p.counts) }, wrote_all d ready p.whole p.frames p.rest t p.carried s.3)
+    let carried : Carries false p.whole p.frames [] = subst (λ (x : List ℕ). Carries false p.whole p.frames x) s.1 p.carried in (
+      p.frames,
+      record {
+        longest = subst (λ (x : List ℕ). IsLongest x p.frames []) (sym all) (stuck_longest p.whole p.frames [] carried (partial_stuck (in_force_behind false p.frames) [] partial-empty));
+        within = omega (arith, ap (λ (x : List ℕ). length x) same, p.counts);
+      },
+      wrote_all d ready p.whole p.frames p.rest t p.carried s.3,
+    )
 ends_by d ready text left_text left t (is.Refused words) p here e =
     let s = p.stops in
     let b = broken text p.whole p.beyond p.rest left_text left p.frames here e p.counts p.carried s.0 in
@@ -150,3 +161,49 @@ frame_served d old mid text left1 left2 before w1 r1 r2 count n f1 f2 body s t l
     by_place : (fs : List Frame) → IsBuilt (in_force_behind false fs) frame body → (more : List Frame) → IsServed d (config_of ((fs ++ frame ∷ []) ++ more)) → IsServed d (usac_of frame.opening)
     by_place [] b more h = h
     by_place (g ∷ fs) b more h = rw (later frame body b) tt
+
+-- ---- a file of a shelf
+
+remains_left : (a b : ℕ) (left file : Option (List ℕ)) → b ≡ a + 1 → remains_of a b left file ≡ left
+remains_left a b left file e = rw (lt-ltb a b (omega arith)) refl
+
+remains_file : (a b : ℕ) (left file : Option (List ℕ)) → b ≡ a → remains_of a b left file ≡ file
+remains_file a b left file e = rw (le-ltb a b (omega arith)) refl
+
+-- an input that was begun
+pub plays_begun : (d : Definitions) (ready : Option Running) (text : List ℕ) (a b id : ℕ) (left_before : Option (List ℕ)) (left : ℕ → Option (List ℕ)) (t : Traces) (outcome : Outcome)
+    → left_before ≡ Some text → id ≡ a → b ≡ a + 1 → PlaysSource d ready left_before (left id) t outcome → PlaysFile d text (remains_of a b (left a) (Some text)) t outcome
+plays_begun d ready text a b id left_before left t outcome here id-is more p =
+    let q = subst (λ (x : Option (List ℕ)). PlaysSource d ready x (left id) t outcome) here p in
+    let f = plays_file d ready text (left id) t outcome q in
+    subst (λ (x : Option (List ℕ)). PlaysFile d text x t outcome) (ap left id-is ∙ sym (remains_left a b (left a) (Some text) more)) f
+
+abbrev untouched : Option (List ℕ) → ℕ → Traces
+untouched written fed = record { written_before = written; written_after = written; fed_before = fed; fed_after = fed }
+
+-- an input that could not be begun
+pub not_begun : (d : Definitions) (text : List ℕ) (a b : ℕ) (left written : Option (List ℕ)) (fed : ℕ) → b ≡ a → PlaysFile d text (remains_of a b left (Some text)) (untouched written fed) is.ReadFault
+not_begun d text a b left written fed e = record {
+  taken = [];
+  from = sym (remains_file a b left (Some text) e) ∙ prepend-none (remains_of a b left (Some text));
+  within = omega arith;
+  ends = ([], [], stuck_longest [] [] [] refl (partial_stuck false [] partial-empty), partial-empty, record { written = append-none written; fed = omega arith });
+}
+
+-- an input that found no memory
+pub not_begun_memory : (d : Definitions) (text : List ℕ) (a b : ℕ) (left written : Option (List ℕ)) (fed : ℕ) (error : AllocError) → b ≡ a → PlaysFile d text (remains_of a b left (Some text)) (untouched written fed) (is.Memory error)
+not_begun_memory d text a b left written fed error e =
+    let f = exists_longest (take most_bytes text) in
+    record {
+      taken = [];
+      from = sym (remains_file a b left (Some text) e) ∙ prepend-none (remains_of a b left (Some text));
+      within = omega arith;
+      ends = (f.0, f.1, f.2, record { written = (0, append-none written); fed = omega arith });
+    }
+
+-- what is left of the other inputs
+pub left_of_others : (id n other : ℕ) (left_old left_mid left_new : ℕ → Option (List ℕ)) → id ≡ n → other < n → left_mid other ≡ left_old other → all_but id left_new ≡ all_but id left_mid → left_new other ≡ left_old other
+left_of_others id n other left_old left_mid left_new id-is lt begun rest =
+    let apart : eqb other id ≡ false = ne_eqb other id (λ e. omega arith) in
+    let at : all_but id left_new other ≡ all_but id left_mid other = ap (λ (f : ℕ → Option (List ℕ)). f other) rest in
+    (rw apart at at) ∙ begun

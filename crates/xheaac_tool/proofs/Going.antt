@@ -31,7 +31,7 @@ use Rattle.xheaac_tool.proofs.Pieces.{prepend-prepend}
 use Rattle.xheaac_tool.proofs.Runs.{carries_more, carries_push, unbuilt_stuck, lost_stuck}
 use Rattle.xheaac_tool.proofs.Outputs.{emitted_push, stepped_push}
 
-prepend-none : (known : Option (List ℕ)) → known ≡ prepend_known [] known
+pub prepend-none : (known : Option (List ℕ)) → known ≡ prepend_known [] known
 prepend-none None = refl
 prepend-none (Some bytes) = refl
 
@@ -159,40 +159,41 @@ pub done : (d : Definitions) (old mid : Meaning) (left0 left1 left2 before w1 : 
     → PlaysSource d old.ready left0 left2 (traces before w1 old.fed mid.fed) is.Done
 done d old mid left0 left1 left2 before w1 r1 r2 count f1 f2 s t limit =
     stop d old mid mid left0 left1 left2 before w1 w1 r1 r2 count t.got t.got [] is.Done s t.from (none_beyond t.got) t.answered.0 limit t.within
-      (refl, t.answered.1, t.answered.2, played_all d old mid left0 left1 before w1 r1 count s)
+    (refl, t.answered.1, t.answered.2, played_all d old mid left0 left1 before w1 r1 count s)
 
 pub ended : (d : Definitions) (old mid : Meaning) (left0 left1 left2 before w1 : Option (List ℕ)) (r1 r2 : Reading) (count f1 f2 : ℕ) (end : StreamEnd) (outcome : Outcome)
     → GoesOn d old mid left0 left1 before w1 r1 count → Takes most_bytes r1 r2 (record { left = left1; faults = f1 }) (record { left = left2; faults = f2 }) (Err end) → r2.taken ≤ most_bytes → Becomes end count outcome
     → PlaysSource d old.ready left0 left2 (traces before w1 old.fed mid.fed) outcome
 ended d old mid left0 left1 left2 before w1 r1 r2 count f1 f2 streams.ReadFault outcome s t limit b =
     subst (λ (o : Outcome). PlaysSource d old.ready left0 left2 (traces before w1 old.fed mid.fed) o) (sym b)
-      (stop d old mid mid left0 left1 left2 before w1 w1 r1 r2 count t.got t.got [] is.ReadFault s t.from (none_beyond t.got) t.answered.0 limit t.within (refl, t.answered.1, played_all d old mid left0 left1 before w1 r1 count s))
+    (stop d old mid mid left0 left1 left2 before w1 w1 r1 r2 count t.got t.got [] is.ReadFault s t.from (none_beyond t.got) t.answered.0 limit t.within (refl, t.answered.1, played_all d old mid left0 left1 before w1 r1 count s))
 ended d old mid left0 left1 left2 before w1 r1 r2 count f1 f2 streams.SyncLost outcome s t limit b =
     stop d old mid mid left0 left1 left2 before w1 w1 r1 r2 count t.got t.got [] outcome s t.from (none_beyond t.got) t.answered.0 limit t.within
-      (stops_refused d old.ready s.frames (s.got ++ t.got) [] r2.held left2 (traces before w1 old.fed mid.fed) count outcome b s.counted
-        (inl (refl, lost_some r2.held t.answered.1, λ more. lost_stuck (in_force_behind false s.frames) r2.held more t.answered.1)) (played_all d old mid left0 left1 before w1 r1 count s))
+    (stops_refused d old.ready s.frames (s.got ++ t.got) [] r2.held left2 (traces before w1 old.fed mid.fed) count outcome b s.counted
+    (inl (refl, lost_some r2.held t.answered.1, λ more. lost_stuck (in_force_behind false s.frames) r2.held more t.answered.1)) (played_all d old mid left0 left1 before w1 r1 count s))
 ended d old mid left0 left1 left2 before w1 r1 r2 count f1 f2 streams.Truncated outcome s t limit b =
     stop d old mid mid left0 left1 left2 before w1 w1 r1 r2 count t.got t.got [] outcome s t.from (none_beyond t.got) t.answered.0 limit t.within
-      (stops_refused d old.ready s.frames (s.got ++ t.got) [] r2.held left2 (traces before w1 old.fed mid.fed) count outcome b s.counted
-        (inr (inl (refl, t.answered.1, t.answered.2, t.answered.3))) (played_all d old mid left0 left1 before w1 r1 count s))
+    (stops_refused d old.ready s.frames (s.got ++ t.got) [] r2.held left2 (traces before w1 old.fed mid.fed) count outcome b s.counted
+    (inr (inl (refl, t.answered.1, t.answered.2, t.answered.3))) (played_all d old mid left0 left1 before w1 r1 count s))
 ended d old mid left0 left1 left2 before w1 r1 r2 count f1 f2 streams.TooLarge outcome s t limit b =
     let a = t.answered in
     stop d old mid mid left0 left1 left2 before w1 w1 r1 r2 count t.got a.0 (a.1 ∷ []) outcome s t.from a.2 a.3 limit t.within
-      (stops_refused d old.ready s.frames (s.got ++ a.0) (a.1 ∷ []) r2.held left2 (traces before w1 old.fed mid.fed) count outcome b s.counted
-        (inr (inr (a.1, refl, a.4, omega (arith, a.5, ap (λ (r : Reading). r.taken) a.3, length-append s.got a.0, s.taken)))) (played_all d old mid left0 left1 before w1 r1 count s))
+    (stops_refused d old.ready s.frames (s.got ++ a.0) (a.1 ∷ []) r2.held left2 (traces before w1 old.fed mid.fed) count outcome b s.counted
+    (inr (inr (a.1, refl, a.4, omega (arith, a.5, ap (λ (r : Reading). r.taken) a.3, length-append s.got a.0, s.taken)))) (played_all d old mid left0 left1 before w1 r1 count s))
 ended d old mid left0 left1 left2 before w1 r1 r2 count f1 f2 (streams.Memory e) outcome s t limit b =
     let a = t.answered in
     subst (λ (o : Outcome). PlaysSource d old.ready left0 left2 (traces before w1 old.fed mid.fed) o) (sym b)
-      (stop d old mid mid left0 left1 left2 before w1 w1 r1 r2 count t.got a.0 a.1 (is.Memory e) s t.from a.2 a.3 limit t.within (all_front d old.ready s.frames (traces before w1 old.fed mid.fed) (played_all d old mid left0 left1 before w1 r1 count s)))
+    (stop d old mid mid left0 left1 left2 before w1 w1 r1 r2 count t.got a.0 a.1 (is.Memory e) s t.from a.2 a.3 limit t.within (all_front d old.ready s.frames (traces before w1 old.fed mid.fed) (played_all d old mid left0 left1 before w1 r1 count s)))
 
 -- a front of the bytes of one more frame
 front_more : (d : Definitions) (ready mid_ready : Option Running) (fs : List Frame) (f : Frame) (before w1 w2 : Option (List ℕ)) → mid_ready ≡ stepped_through d ready fs → w1 ≡ append_known before (sample_bytes (emitted_through d ready fs))
     → WrotePart w1 w2 (sample_bytes (emitted_by d mid_ready f)) → WrotePart before w2 (sample_bytes (emitted_through d ready (fs ++ f ∷ [])))
 front_more d ready mid_ready fs f before w1 w2 e one part =
     let xs = sample_bytes (emitted_through d ready fs) in
-    let ys = sample_bytes (emitted_by d mid_ready f) in
-    (length xs + part.0,
-     output_front d ready mid_ready fs f before w1 w2 (take part.0 ys) one part.1 ∙ ap (λ (x : List ℕ). append_known before x) (sym (take-append-add xs ys part.0) ∙ ap (λ (x : List ℕ). take (length xs + part.0) x) (output_more d ready mid_ready fs f e)))
+    let ys = sample_bytes (emitted_by d mid_ready f) in (
+      length xs + part.0,
+      output_front d ready mid_ready fs f before w1 w2 (take part.0 ys) one part.1 ∙ ap (λ (x : List ℕ). append_known before x) (sym (take-append-add xs ys part.0) ∙ ap (λ (x : List ℕ). take (length xs + part.0) x) (output_more d ready mid_ready fs f e)),
+    )
 
 -- a part of a frame was written
 partly : (d : Definitions) (old mid now : Meaning) (left0 left1 left2 before w1 w2 : Option (List ℕ)) (r1 r2 : Reading) (count n f1 f2 : ℕ) (body : List ℕ)
@@ -226,24 +227,24 @@ stopped d old mid now left0 left1 left2 before w1 w2 r1 r2 count n f1 f2 body fr
     let here = frame_here r2 n body t.answered.1 body-is in
     let none : (frame : Frame) → IsBuilt (in_force_behind false s.frames) frame body → ⊥ = λ frame h. p.0 frame (subst (λ (o : Bool). IsBuilt o frame body) (sym (in_force_is s.frames count s.counted)) h) in
     stop d old mid now left0 left1 left2 before w1 w2 r1 r2 count t.got t.got [] outcome s t.from (none_beyond t.got) t.answered.0 limit t.within
-      (stops_refused d old.ready s.frames (s.got ++ t.got) [] r2.held left2 (traces before w2 old.fed now.fed) count outcome b s.counted
-        (inl (refl, omega (arith, t.answered.1.long), λ more. unbuilt_stuck (in_force_behind false s.frames) r2.held body (drop (3 + n) r2.held) more here.0 here.1 none))
-        (record { written = p.2 ∙ s.output; fed = omega (arith, p.1, s.fed, s.counted) }))
+    (stops_refused d old.ready s.frames (s.got ++ t.got) [] r2.held left2 (traces before w2 old.fed now.fed) count outcome b s.counted
+    (inl (refl, omega (arith, t.answered.1.long), λ more. unbuilt_stuck (in_force_behind false s.frames) r2.held body (drop (3 + n) r2.held) more here.0 here.1 none))
+    (record { written = p.2 ∙ s.output; fed = omega (arith, p.1, s.fed, s.counted) }))
 stopped d old mid now left0 left1 left2 before w1 w2 r1 r2 count n f1 f2 body frames.WriteFault outcome s t limit body-is p b =
     subst (λ (o : Outcome). PlaysSource d old.ready left0 left2 (traces before w2 old.fed now.fed) o) (sym b)
-      (partly d old mid now left0 left1 left2 before w1 w2 r1 r2 count n f1 f2 body s t limit body-is p is.WriteFault (λ fs whole beyond rest front. front))
+    (partly d old mid now left0 left1 left2 before w1 w2 r1 r2 count n f1 f2 body s t limit body-is p is.WriteFault (λ fs whole beyond rest front. front))
 stopped d old mid now left0 left1 left2 before w1 w2 r1 r2 count n f1 f2 body frames.CoreFault outcome s t limit body-is p b =
     let here = frame_here r2 n body t.answered.1 body-is in
     subst (λ (o : Outcome). PlaysSource d old.ready left0 left2 (traces before w2 old.fed now.fed) o) (sym b)
-      (stop d old mid now left0 left1 left2 before w1 w2 r1 r2 count t.got t.got [] is.CoreFault s t.from (none_beyond t.got) t.answered.0 limit t.within
-        ((p.0.0, body, drop (3 + n) r2.held, here.0, here.1, subst (λ (o : Bool). IsBuilt o p.0.0 body) (in_force_is s.frames count s.counted) p.0.1), record { written = p.2 ∙ s.output; fed = omega (arith, p.1, s.fed, s.counted) }))
+    (stop d old mid now left0 left1 left2 before w1 w2 r1 r2 count t.got t.got [] is.CoreFault s t.from (none_beyond t.got) t.answered.0 limit t.within
+    ((p.0.0, body, drop (3 + n) r2.held, here.0, here.1, subst (λ (o : Bool). IsBuilt o p.0.0 body) (in_force_is s.frames count s.counted) p.0.1), record { written = p.2 ∙ s.output; fed = omega (arith, p.1, s.fed, s.counted) }))
 stopped d old mid now left0 left1 left2 before w1 w2 r1 r2 count n f1 f2 body (frames.Memory e) outcome s t limit body-is p b =
     subst (λ (o : Outcome). PlaysSource d old.ready left0 left2 (traces before w2 old.fed now.fed) o) (sym b)
-      (elim p [
-        | inl part ↦ partly d old mid now left0 left1 left2 before w1 w2 r1 r2 count n f1 f2 body s t limit body-is part (is.Memory e) (λ fs whole beyond rest front. front)
-        | inr none ↦ stop d old mid now left0 left1 left2 before w1 w2 r1 r2 count t.got t.got [] (is.Memory e) s t.from (none_beyond t.got) t.answered.0 limit t.within
-            (nothing_more d old mid now left0 left1 before w1 w2 r1 count s none)
-      ])
+    (elim p [
+      | inl part ↦ partly d old mid now left0 left1 left2 before w1 w2 r1 r2 count n f1 f2 body s t limit body-is part (is.Memory e) (λ fs whole beyond rest front. front)
+      | inr none ↦ stop d old mid now left0 left1 left2 before w1 w2 r1 r2 count t.got t.got [] (is.Memory e) s t.from (none_beyond t.got) t.answered.0 limit t.within
+          (nothing_more d old mid now left0 left1 before w1 w2 r1 count s none)
+    ])
 
 -- the measure of the loop
 pub falls : (r1 r2 r3 : Reading) (n f1 f2 : ℕ) (left1 left2 : Option (List ℕ)) → r2.taken ≤ most_bytes → Takes most_bytes r1 r2 (record { left = left1; faults = f1 }) (record { left = left2; faults = f2 }) (Ok (Some n))
@@ -261,3 +262,15 @@ bounds r1 r2 r3 count n f1 f2 left1 left2 limit t passed held many =
     let taken2 : r2.taken ≡ r1.taken + length t.got = ap (λ (r : Reading). r.taken) t.answered.0 in
     let held2 : length r2.held ≡ length r1.held + length t.got = ap (λ (r : Reading). length r.held) t.answered.0 ∙ length-append r1.held t.got in
     (omega (arith, limit), omega (arith, held), omega (arith, many, t.answered.1.long))
+
+-- a core fault comes of a core fault
+pub becomes_core : (end : FrameEnd) (count : ℕ) (outcome : Outcome) → BecomesOf end count outcome → outcome ≡ is.CoreFault → end ≡ frames.CoreFault
+becomes_core frames.NotBuilt count is.CoreFault b e = absurd b
+becomes_core frames.NotBuilt count is.Done b e = absurd b
+becomes_core frames.NotBuilt count (is.Refused words) b e = absurd cc
+becomes_core frames.NotBuilt count is.ReadFault b e = absurd b
+becomes_core frames.NotBuilt count is.WriteFault b e = absurd b
+becomes_core frames.NotBuilt count (is.Memory x) b e = absurd cc
+becomes_core frames.WriteFault count outcome b e = absurd cc
+becomes_core frames.CoreFault count outcome b e = refl
+becomes_core (frames.Memory x) count outcome b e = absurd cc

@@ -8,3 +8,4 @@ pub mod Handing
 pub mod FrameSteps
 pub mod Going
 pub mod Endings
+pub mod WordLemmas

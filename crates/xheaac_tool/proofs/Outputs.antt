@@ -62,4 +62,4 @@ pub emitted_append : (d : Definitions) (ready : Option Running) (frames more : L
 emitted_append d ready [] more = refl
 emitted_append d ready (first ∷ frames) more =
     ap (λ (xs : List ℤ). emitted_by d ready first ++ xs) (emitted_append d (stepped_by d ready first) frames more)
-      ∙ sym (append_assoc (emitted_by d ready first) (emitted_through d (stepped_by d ready first) frames) (emitted_through d (stepped_through d (stepped_by d ready first) frames) more))
+    ∙ sym (append_assoc (emitted_by d ready first) (emitted_through d (stepped_by d ready first) frames) (emitted_through d (stepped_through d (stepped_by d ready first) frames) more))

@@ -10,6 +10,7 @@ pub mod Output
 pub mod Stepping
 pub mod Handing
 pub mod OneFrame
+pub mod Words
 pub mod Texts
 pub mod Causes
 pub mod Played

@@ -10,7 +10,7 @@ use Rattle.xheaac_tool.specs.declared.outcome.Outcome.TheVariants as is
 use Rattle.xheaac_tool.specs.Framing.{IsPartial}
 use Rattle.xheaac_tool.specs.Reading.{most_bytes}
 use Rattle.xheaac_tool.specs.Carrying.{IsLongest}
-use Rattle.xheaac_tool.specs.Output.{output}
+use Rattle.xheaac_tool.specs.Output.{output, config_of, IsServed}
 use Rattle.xheaac_tool.specs.Handing.{WrotePart}
 use Rattle.xheaac_tool.specs.Texts.{not_built_text}
 
@@ -65,3 +65,7 @@ pub record PlaysFile (d : Definitions) (text : List ℕ) (remains : Option (List
 -- what remains of the input that the command began, or else the whole file
 abbrev pub remains_of : ℕ → ℕ → Option (List ℕ) → Option (List ℕ) → Option (List ℕ)
 remains_of begun_before begun_after left file = if nat_lt begun_before begun_after then left else file
+
+-- the core serves the configuration of the file's first frame, where it has one
+abbrev pub IsTextServed : Definitions → List ℕ → Type 0
+IsTextServed d text = (frames : List Frame) (rest : List ℕ) → IsLongest (take most_bytes text) frames rest → IsServed d (config_of frames)

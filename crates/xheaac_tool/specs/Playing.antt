@@ -100,3 +100,12 @@ BecomesOf frames.NotBuilt frame outcome = IsRefusedAt frame outcome
 BecomesOf frames.WriteFault frame outcome = outcome ≡ is.WriteFault
 BecomesOf frames.CoreFault frame outcome = outcome ≡ is.CoreFault
 BecomesOf (frames.Memory e) frame outcome = outcome ≡ is.Memory e
+
+-- the shelf refused to begin the input
+abbrev pub IsNotBegun : Outcome → Type 0
+IsNotBegun is.Done = ⊥
+IsNotBegun (is.Refused words) = ⊥
+IsNotBegun is.ReadFault = Unit {0}
+IsNotBegun is.WriteFault = ⊥
+IsNotBegun is.CoreFault = ⊥
+IsNotBegun (is.Memory e) = Unit {0}

@@ -1,5 +1,9 @@
-use Rattle.std.proofs.Common.{◌≡◌, ◌≤◌, arith, rules, refl, ◌∙◌}
-use Rattle.xheaac_tool.proofs.Going.{starts, goes_on, done, ended, stopped, falls, bounds}
+use Rattle.std.proofs.Common.{◌≡◌, ◌≤◌, arith, rules, refl, ◌∙◌, ap, subst}
+use Rattle.layout.proofs.Layouts.{failed}
+use Rattle.xheaac_tool.specs.declared.one_frame.FrameEnd.{FrameEnd}
+use Rattle.xheaac_tool.specs.Playing.{GoesOn}
+use Rattle.xheaac_tool.proofs.Endings.{frame_served}
+use Rattle.xheaac_tool.proofs.Going.{starts, goes_on, done, ended, stopped, falls, bounds, becomes_core}
 use Rattle.xheaac_tool.proofs.play.play_source.Goals as goal
 
 pub frames-init : goal.frames-init
@@ -55,3 +59,11 @@ frames-preserved g c =
       calm_out = search rules;
       calm_core = search rules;
     }
+
+pub returns-in-Err-play_frame-clause-calm_decodes : goal.returns-in-Err-play_frame-clause-calm_decodes
+returns-in-Err-play_frame-clause-calm_decodes g c = λ text here served calm core_fault.
+    let next = rw c.in-Ok-Some.field-0-is at c.in-Ok-Some.ensures in
+    let is_core = becomes_core _ _ _ c.stopped_by.ensures core_fault in
+    let so_far = subst (λ left. GoesOn g.C.Core.does (g.C.Core.meaning c.args.core.now) (g.C.Core.meaning c.frames.core) left (g.S.Source.left c.frames.source) (g.K.Sink.written c.args.out.now) (g.K.Sink.written c.frames.out) c.frames.reader c.frames.count) here c.frames.invariant.so_far in
+    let each = frame_served g.C.Core.does _ _ text _ _ _ _ _ _ _ _ _ _ _ so_far next.takes next.limit c.body.ensures served in
+    c.in-Err-play_frame.ensures.calm_decodes (c.frames.invariant.calm_core calm) each (ap (λ (e : FrameEnd). failed {A = Unit {0}} e) is_core)
