@@ -55,7 +55,7 @@ front_of_front k xs ys =
       | inr le ↦ (length xs, take_all k xs le ∙ sym (take_at xs ys (length xs) refl))
     ]
 
-wrote_front : (d : Definitions) (ready : Option Running) (text : List ℕ) (fs more : List Frame) (rest : List ℕ) (t : Traces) → Carries false text (fs ++ more) rest → PlayedFront d ready fs t → WroteFront d (fs ++ more) t
+pub wrote_front : (d : Definitions) (ready : Option Running) (text : List ℕ) (fs more : List Frame) (rest : List ℕ) (t : Traces) → Carries false text (fs ++ more) rest → PlayedFront d ready fs t → WroteFront d (fs ++ more) t
 wrote_front d ready text fs more rest t c p =
     let xs = sample_bytes (emitted_through d ready fs) in
     let ys = sample_bytes (emitted_through d (stepped_through d ready fs) more) in
@@ -64,7 +64,7 @@ wrote_front d ready text fs more rest t c p =
     record { written = (f.0, p.written.1 ∙ ap (λ (x : List ℕ). append_known t.written_before x) (f.1 ∙ ap (λ (x : List ℕ). take f.0 x) whole)); fed = omega (arith, p.fed, length-append fs more) }
 
 -- the frames that were played are the first of those that the bytes that count carry
-played_first : (text whole beyond : List ℕ) (fs : List Frame) (rest : List ℕ) → text ≡ whole ++ beyond → length whole ≤ most_bytes → Carries false whole fs rest
+pub played_first : (text whole beyond : List ℕ) (fs : List Frame) (rest : List ℕ) → text ≡ whole ++ beyond → length whole ≤ most_bytes → Carries false whole fs rest
     → (more : List Frame) × (remains : List ℕ) × IsLongest (take most_bytes text) (fs ++ more) remains × Carries (in_force_behind false fs) (rest ++ take (most_bytes - length whole) beyond) more remains
 played_first text whole beyond fs rest e le c =
     let x = take (most_bytes - length whole) beyond in
@@ -125,7 +125,7 @@ ends_by d ready text left_text left t (is.Refused words) p here e =
 ends_by d ready text left_text left t is.ReadFault p here e =
     let s = p.stops in
     let same : p.whole ++ p.beyond ≡ p.whole = ap (λ (x : List ℕ). p.whole ++ x) s.0 ∙ append-nil p.whole in
-    (p.frames, p.rest, subst (λ (x : List ℕ). IsLongest x p.frames p.rest) (sym same) (stuck_longest p.whole p.frames p.rest p.carried (partial_stuck (in_force_behind false p.frames) p.rest s.1)), s.1, wrote_all d ready p.whole p.frames p.rest t p.carried s.2)
+    (p.frames, p.rest, subst (λ (x : List ℕ). IsLongest x p.frames p.rest) (sym same) (stuck_longest p.whole p.frames p.rest p.carried (partial_stuck (in_force_behind false p.frames) p.rest s.1)), s.1, omega (arith, ap (λ (x : List ℕ). length x) same, p.counts), wrote_all d ready p.whole p.frames p.rest t p.carried s.2)
 ends_by d ready text left_text left t is.WriteFault p here e =
     fronts d ready text p.whole (p.beyond ++ left_text) p.frames p.rest t (e ∙ append_assoc p.whole p.beyond left_text) p.counts p.carried p.stops
 ends_by d ready text left_text left t is.CoreFault p here e =
@@ -187,7 +187,7 @@ not_begun d text a b left written fed e = record {
   taken = [];
   from = sym (remains_file a b left (Some text) e) ∙ prepend-none (remains_of a b left (Some text));
   within = omega arith;
-  ends = ([], [], stuck_longest [] [] [] refl (partial_stuck false [] partial-empty), partial-empty, record { written = append-none written; fed = omega arith });
+  ends = ([], [], stuck_longest [] [] [] refl (partial_stuck false [] partial-empty), partial-empty, omega arith, record { written = append-none written; fed = omega arith });
 }
 
 -- an input that found no memory

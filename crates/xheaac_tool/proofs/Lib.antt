@@ -9,3 +9,4 @@ pub mod FrameSteps
 pub mod Going
 pub mod Endings
 pub mod WordLemmas
+pub mod Rans

@@ -11,6 +11,8 @@ pub mod Stepping
 pub mod Handing
 pub mod OneFrame
 pub mod Words
+pub mod Asked
+pub mod Ran
 pub mod Texts
 pub mod Causes
 pub mod Played

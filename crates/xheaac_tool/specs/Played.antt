@@ -48,7 +48,7 @@ Ends d text taken t is.Done = (frames : List Frame) × IsWhole text frames × Wr
 Ends d text taken t (is.Refused words) =
     (frames : List Frame) × (rest : List ℕ) × IsBroken text frames rest × (words ≡ not_built_text (length frames)) × WroteAll d frames t
 Ends d text taken t is.ReadFault =
-    (frames : List Frame) × (rest : List ℕ) × IsLongest taken frames rest × IsPartial rest × WroteAll d frames t
+    (frames : List Frame) × (rest : List ℕ) × IsLongest taken frames rest × IsPartial rest × (length taken ≤ most_bytes) × WroteAll d frames t
 Ends d text taken t is.WriteFault = (frames : List Frame) × (rest : List ℕ) × IsLongest (take most_bytes text) frames rest × WroteFront d frames t
 -- the frame at which the core failed is the first of the others
 Ends d text taken t is.CoreFault =

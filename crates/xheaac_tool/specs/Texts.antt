@@ -6,3 +6,15 @@ not_built_text frame = codes "refused: frame " ++ (decimal frame ++ codes ": for
 
 abbrev pub usage_text : List ℕ
 usage_text = codes "usage: xheaac show|check|play FILE | start FILE FRAME | plan|splice|switch FILE POS [FILE POS]... | insert FILE K FADE TARGETS | strip FILE TAIL TARGETS | make START FRAMES\n"
+
+abbrev pub read_text : List ℕ
+read_text = codes "read fault\n"
+
+abbrev pub write_text : List ℕ
+write_text = codes "write fault\n"
+
+abbrev pub core_text : List ℕ
+core_text = codes "core fault\n"
+
+abbrev pub memory_text : List ℕ
+memory_text = codes "out of memory\n"

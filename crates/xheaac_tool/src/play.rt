@@ -102,8 +102,12 @@ fn play_begun<H: Shelf, K: Sink, C: Core>(
     requires begun { id < H.begun shelf.old }
     requires fed { (C.meaning core.old).fed ≤ 2 ^ 63 }
     ensures plays { PlaysSource C.does (C.meaning core.old).ready (H.left shelf.old id) (H.left shelf.new id)
-        (record { written_before = K.written out.old; written_after = K.written out.new;
-            fed_before = (C.meaning core.old).fed; fed_after = (C.meaning core.new).fed }) result }
+        (record {
+          written_before = K.written out.old;
+          written_after = K.written out.new;
+          fed_before = (C.meaning core.old).fed;
+          fed_after = (C.meaning core.new).fed;
+        }) result }
     ensures caused { Caused
         (record { shelf = H.faults shelf.old; out = K.faults out.old; core = (C.meaning core.old).faults })
         (record { shelf = H.faults shelf.new; out = K.faults out.new; core = (C.meaning core.new).faults }) result }

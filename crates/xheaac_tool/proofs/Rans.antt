@@ -1,0 +1,186 @@
+-- What the top call answers, from how the command ended.
+use Rattle.std.proofs.Common.{◌≡◌, ℕ, ◌+◌, ◌<◌, ◌≤◌, List, [], ◌∷◌, ◌++◌, length, take, Some, None, Option, Bool, true, false, refl, sym, ap, ◌∙◌, subst, arith, inl, inr}
+use Rattle.std.specs.Prelude.{◌≢◌, ◌⊎◌, codes, if◌then◌else◌}
+use Rattle.std.specs.Str.{bytes_eq}
+use Rattle.std.specs.Io.KnownBytes.{append_known}
+use Rattle.std.proofs.lemmas.List.{append-nil, take_all}
+use Rattle.core_iface.specs.Decoding.{Definitions}
+use Rattle.core_iface.specs.Samples.{sample_bytes}
+use Rattle.xheaac_tool.specs.Carrying.{Carries, IsLongest}
+use Rattle.xheaac_tool.specs.Causes.{Counts, Caused}
+use Rattle.xheaac_tool.specs.Handing.{WrotePart}
+use Rattle.xheaac_tool.specs.Output.{output}
+use Rattle.xheaac_tool.specs.Played.{Traces, PlaysFile, Ends, WroteAll, WroteFront}
+use Rattle.xheaac_tool.specs.Ran.{Notes, Noted, Reports, NotedFront, NotesOf, CausesOf, RunsPlay, status_of, text_of}
+use Rattle.xheaac_tool.specs.Reading.{most_bytes}
+use Rattle.xheaac_tool.specs.Stepping.{emitted_through}
+use Rattle.xheaac_tool.specs.Words.{case_of, file_of, Play}
+use Rattle.xheaac_tool.specs.declared.frame.Frame.{Frame}
+use Rattle.xheaac_tool.specs.declared.outcome.Outcome.{Outcome}
+use Rattle.xheaac_tool.specs.declared.outcome.Outcome.TheVariants as is
+use Rattle.xheaac_tool.proofs.Endings.{told, wrote_front, played_first}
+use Rattle.xheaac_tool.proofs.Outputs.{output_is}
+
+-- ---- statuses and outcomes
+
+at_zero : (o : Outcome) → status_of o ≡ 0 → o ≡ is.Done
+at_zero is.Done e = refl
+at_zero (is.Refused text) e = absurd (omega arith)
+at_zero is.ReadFault e = absurd (omega arith)
+at_zero is.WriteFault e = absurd (omega arith)
+at_zero is.CoreFault e = absurd (omega arith)
+at_zero (is.Memory error) e = absurd (omega arith)
+
+at_one : (o : Outcome) → status_of o ≡ 1 → (text : List ℕ) × (o ≡ is.Refused text)
+at_one is.Done e = absurd (omega arith)
+at_one (is.Refused text) e = (text, refl)
+at_one is.ReadFault e = absurd (omega arith)
+at_one is.WriteFault e = absurd (omega arith)
+at_one is.CoreFault e = absurd (omega arith)
+at_one (is.Memory error) e = absurd (omega arith)
+
+pub at_three : (o : Outcome) → status_of o ≡ 3 → o ≡ is.ReadFault
+at_three is.Done e = absurd (omega arith)
+at_three (is.Refused text) e = absurd (omega arith)
+at_three is.ReadFault e = refl
+at_three is.WriteFault e = absurd (omega arith)
+at_three is.CoreFault e = absurd (omega arith)
+at_three (is.Memory error) e = absurd (omega arith)
+
+pub at_four : (o : Outcome) → status_of o ≡ 4 → o ≡ is.WriteFault
+at_four is.Done e = absurd (omega arith)
+at_four (is.Refused text) e = absurd (omega arith)
+at_four is.ReadFault e = absurd (omega arith)
+at_four is.WriteFault e = refl
+at_four is.CoreFault e = absurd (omega arith)
+at_four (is.Memory error) e = absurd (omega arith)
+
+pub at_five : (o : Outcome) → status_of o ≡ 5 → o ≡ is.CoreFault
+at_five is.Done e = absurd (omega arith)
+at_five (is.Refused text) e = absurd (omega arith)
+at_five is.ReadFault e = absurd (omega arith)
+at_five is.WriteFault e = absurd (omega arith)
+at_five is.CoreFault e = refl
+at_five (is.Memory error) e = absurd (omega arith)
+
+-- a status other than want of memory is the outcome's, and its text was noted
+pub told_status : (n : Notes) (o : Outcome) (s k : ℕ) → Reports n (text_of o) (status_of o) s → s ≡ k → k < 6 → (status_of o ≡ k) × Noted n (text_of o)
+told_status n o s k (inl (a, noted)) e lt = (sym a ∙ e, noted)
+told_status n o s k (inr (a, part)) e lt = absurd (omega (arith, a, e, lt))
+
+-- the answer 0 is that all is done
+pub done_outcome : (n : Notes) (o : Outcome) (s : ℕ) → Reports n (text_of o) (status_of o) s → s ≡ 0 → o ≡ is.Done
+done_outcome n o s r e = at_zero o (told_status n o s 0 r e (omega arith)).0
+
+pub read_outcome : (n : Notes) (o : Outcome) (s : ℕ) → Reports n (text_of o) (status_of o) s → s ≡ 3 → o ≡ is.ReadFault
+read_outcome n o s r e = at_three o (told_status n o s 3 r e (omega arith)).0
+
+pub write_outcome : (n : Notes) (o : Outcome) (s : ℕ) → Reports n (text_of o) (status_of o) s → s ≡ 4 → o ≡ is.WriteFault
+write_outcome n o s r e = at_four o (told_status n o s 4 r e (omega arith)).0
+
+pub core_outcome : (n : Notes) (o : Outcome) (s : ℕ) → Reports n (text_of o) (status_of o) s → s ≡ 5 → o ≡ is.CoreFault
+core_outcome n o s r e = at_five o (told_status n o s 5 r e (omega arith)).0
+
+-- ---- what was written
+
+carries_first : (o : Bool) (text : List ℕ) (fs more : List Frame) (rest : List ℕ) → Carries o text (fs ++ more) rest → (between : List ℕ) × Carries o text fs between
+carries_first o text [] more rest c = (text, refl)
+carries_first o text (frame ∷ fs) more rest c = let m = carries_first true c.1 fs more rest c.5 in (m.0, (c.0, c.1, c.2, c.3, c.4, m.1))
+
+front_of_all : (d : Definitions) (frames : List Frame) (t : Traces) → WroteAll d frames t → WroteFront d frames t
+front_of_all d frames t w =
+    let xs = output d frames in
+    record { written = (length xs, w.written ∙ ap (λ (x : List ℕ). append_known t.written_before x) (sym (take_all (length xs) xs (omega arith)))); fed = omega (arith, w.fed) }
+
+front_of_first : (d : Definitions) (text : List ℕ) (fs more : List Frame) (rest : List ℕ) (t : Traces) → Carries false text (fs ++ more) rest → WroteAll d fs t → WroteFront d (fs ++ more) t
+front_of_first d text fs more rest t c w =
+    let m = carries_first false text fs more rest c in
+    let xs = sample_bytes (emitted_through d None fs) in
+    let whole : output d fs ≡ take (length xs) xs = sym (output_is d None text fs m.0 m.1) ∙ sym (take_all (length xs) xs (omega arith)) in
+    wrote_front d None text fs more rest t c (record { written = (length xs, w.written ∙ ap (λ (x : List ℕ). append_known t.written_before x) whole); fed = omega (arith, w.fed) })
+
+-- however the command ended, a front of the output was written
+front_of : (d : Definitions) (text : List ℕ) (remains : Option (List ℕ)) (t : Traces) (o : Outcome) → PlaysFile d text remains t o → (frames : List Frame) × (rest : List ℕ) × IsLongest (take most_bytes text) frames rest × WroteFront d frames t
+front_of d text remains t is.Done p = let s = p.ends in (s.0, [], s.1.longest, front_of_all d s.0 t s.2)
+front_of d text remains t (is.Refused words) p = let s = p.ends in (s.0, s.1, s.2.longest, front_of_all d s.0 t s.4)
+front_of d text remains t is.ReadFault p =
+    let s = p.ends in
+    let k = told text p.taken remains p.from in
+    let f = played_first text p.taken k.0 s.0 s.1 k.2 s.4 s.2.carried in
+    (s.0 ++ f.0, f.1, f.2, front_of_first d (take most_bytes text) s.0 f.0 f.1 t f.2.carried s.5)
+front_of d text remains t is.WriteFault p = p.ends
+front_of d text remains t is.CoreFault p = let s = p.ends in (s.0 ++ s.1, s.2, s.3, front_of_first d (take most_bytes text) s.0 s.1 s.2 t s.3.carried s.5)
+front_of d text remains t (is.Memory error) p = p.ends
+
+-- ---- the records of the top call
+
+pub runs_play : (d : Definitions) (text : List ℕ) (remains : Option (List ℕ)) (t : Traces) (n : Notes) (o : Outcome) (s : ℕ) → PlaysFile d text remains t o → Reports n (text_of o) (status_of o) s → RunsPlay d text remains t n s
+runs_play d text remains t n o s p r = record {
+  taken = p.taken;
+  from = p.from;
+  within = p.within;
+  done = λ e. subst (λ (x : Outcome). Ends d text p.taken t x) (done_outcome n o s r e) p.ends;
+  refused = λ e.
+      let k = told_status n o s 1 r e (omega arith) in
+      let w = at_one o k.0 in
+      let ends = subst (λ (x : Outcome). Ends d text p.taken t x) w.1 p.ends in
+      let noted = subst (λ (x : Outcome). Noted n (text_of x)) w.1 k.1 in
+      (ends.0, ends.1, ends.2, subst (λ (x : List ℕ). Noted n x) ends.3 noted, ends.4);
+  read = λ e. subst (λ (x : Outcome). Ends d text p.taken t x) (read_outcome n o s r e) p.ends;
+  write = λ e. subst (λ (x : Outcome). Ends d text p.taken t x) (write_outcome n o s r e) p.ends;
+  core = λ e. subst (λ (x : Outcome). Ends d text p.taken t x) (core_outcome n o s r e) p.ends;
+  memory = λ e. front_of d text remains t o p;
+}
+
+noted_front : (n : Notes) (o : Outcome) (wanted s : ℕ) → Reports n (text_of o) wanted s → NotedFront n
+noted_front n o wanted s (inl (a, (inl whole))) = (o, (length (text_of o), whole ∙ ap (λ (x : List ℕ). append_known n.before x) (sym (take_all (length (text_of o)) (text_of o) (omega arith)))))
+noted_front n o wanted s (inl (a, (inr (part, risen)))) = (o, part)
+noted_front n o wanted s (inr (a, part)) = (o, part)
+
+pub notes_of : (n : Notes) (o : Outcome) (s : ℕ) → (o ≡ is.Done → (n.after ≡ n.before) × (n.faults_after ≡ n.faults_before)) → Reports n (text_of o) (status_of o) s → NotesOf n s
+notes_of n o s quiet r = record {
+  done = λ e. quiet (done_outcome n o s r e);
+  read = λ e. subst (λ (x : Outcome). Noted n (text_of x)) (read_outcome n o s r e) (told_status n o s 3 r e (omega arith)).1;
+  write = λ e. subst (λ (x : Outcome). Noted n (text_of x)) (write_outcome n o s r e) (told_status n o s 4 r e (omega arith)).1;
+  core = λ e. subst (λ (x : Outcome). Noted n (text_of x)) (core_outcome n o s r e) (told_status n o s 5 r e (omega arith)).1;
+  memory = λ e. noted_front n o (status_of o) s r;
+}
+
+no_fault : (before now : Counts) (o : Outcome) → status_of o < 3 → Caused before now o → now ≡ before
+no_fault before now is.Done lt c = c
+no_fault before now (is.Refused text) lt c = c
+no_fault before now is.ReadFault lt c = absurd (omega arith)
+no_fault before now is.WriteFault lt c = absurd (omega arith)
+no_fault before now is.CoreFault lt c = absurd (omega arith)
+no_fault before now (is.Memory error) lt c = c
+
+pub causes_of : (n : Notes) (before now : Counts) (o : Outcome) (s : ℕ) → Caused before now o → Reports n (text_of o) (status_of o) s → CausesOf before now s
+causes_of n before now o s c r = record {
+  none = λ lt. let k = told_status n o s s r refl (omega (arith, lt)) in no_fault before now o (omega (arith, k.0, lt)) c;
+  read = λ e. subst (λ (x : Outcome). Caused before now x) (read_outcome n o s r e) c;
+  write = λ e. subst (λ (x : Outcome). Caused before now x) (write_outcome n o s r e) c;
+  core = λ e. subst (λ (x : Outcome). Caused before now x) (core_outcome n o s r e) c;
+}
+
+-- every status but that of the usage
+pub play_status : (n : Notes) (o : Outcome) (s : ℕ) → Reports n (text_of o) (status_of o) s → (s < 7) × (s ≢ 2)
+play_status n o s (inr (a, part)) = (omega (arith, a), λ e. omega (arith, a, e))
+play_status n o s (inl (a, noted)) = by_outcome o a
+  where
+    by_outcome : (o : Outcome) → s ≡ status_of o → (s < 7) × (s ≢ 2)
+    by_outcome is.Done e = (omega arith, λ two. omega arith)
+    by_outcome (is.Refused text) e = (omega arith, λ two. omega arith)
+    by_outcome is.ReadFault e = (omega arith, λ two. omega arith)
+    by_outcome is.WriteFault e = (omega arith, λ two. omega arith)
+    by_outcome is.CoreFault e = (omega arith, λ two. omega arith)
+    by_outcome (is.Memory error) e = (omega arith, λ two. omega arith)
+
+pub file_named : (words : List (List ℕ)) (file : List ℕ) → case_of words ≡ Some (Play file) → file_of words ≡ file
+file_named [] file e = absurd cc
+file_named (command ∷ []) file e = absurd cc
+file_named (command ∷ name ∷ []) file e = by_command (bytes_eq command (codes "play")) e
+  where
+    by_command : (b : Bool) → (if b then Some (Play name) else None) ≡ Some (Play file) → name ≡ file
+    by_command true e = cc
+    by_command false e = absurd cc
+file_named (command ∷ name ∷ more ∷ words) file e = absurd cc

@@ -1,0 +1,23 @@
+// The words of the command line.
+ghost use Rattle.std.specs.Option.{option_map};
+ghost use Rattle.std.specs.Prelude.{◌≡◌};
+ghost use Rattle.xheaac_tool.specs.Asked.{asked};
+ghost use Rattle.xheaac_tool.specs.Words.{case_of, texts};
+
+/// What the words ask for.
+#[derive(Clone, Copy)]
+pub enum Asked<'a> {
+    Play { file: &'a str },
+}
+
+/// Reads the words; `None` where they are no case.
+pub fn read_words<'a>(words: &'a [String]) -> Option<Asked<'a>>
+    ensures { option_map asked result ≡ case_of (texts words.now) }
+{
+    match words {
+        [command, file] if command.as_str() == "play" => Some(Asked::Play {
+            file: file.as_str(),
+        }),
+        _ => None,
+    }
+}
