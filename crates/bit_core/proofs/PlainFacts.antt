@@ -1,15 +1,14 @@
 -- What the reader's calls give, as fields.
-use Rattle.std.proofs.Common.{◌≡◌, ℕ, ◌+◌, ◌*◌, ◌^◌, ◌<◌, ◌≤◌, Bool, eqb, List, [], ◌∷◌, ◌++◌, length, get_or, suc, take, drop, Option, Some, None, Result, Ok, Err, refl, sym, ap, subst, ◌∙◌, arith}
+use Rattle.std.proofs.Common.{◌≡◌, ℕ, ◌+◌, ◌*◌, ◌^◌, ◌<◌, ◌≤◌, Bool, eqb, List, [], ◌∷◌, ◌++◌, length, get_or, suc, take, drop, Result, Ok, Err, refl, sym, ap, ◌∙◌, arith}
 use Rattle.std.specs.Prelude.{IfOk, IfErr, OnOk, OnErr, IsErr, ◌↔◌}
 use Rattle.std.specs.List.{flat_map, AllByRecursion}
-use Rattle.std.proofs.lemmas.List.{length-take-le, length-append, take-append-drop}
 use Rattle.layout.specs.Text.{num, is_odd, bits_of}
 use Rattle.layout.specs.Reader.{Reader, left, moved}
 use Rattle.layout.specs.Layout.{Layout, wrapped, error_mapped}
 use Rattle.layout.specs.Fields.{number, flag, run, none_refused, parsed}
 use Rattle.layout.specs.Times.{times}
 use Rattle.layout.specs.Reading.{Gives, GivesUnless}
-use Rattle.layout.specs.Exact.{IsExact, IsOpen}
+use Rattle.layout.specs.Exact.{IsExact}
 use Rattle.layout.proofs.TextLemmas.{length-num, length-bits_of, left_parts}
 use Rattle.layout.proofs.Layouts.{field-exact, number-field, flag-field, run-field, number_none, times-exact, times-open, whole-exact, field-open, whole_short, run_none}
 use Rattle.bit_core.specs.declared.faults.Short.{Short}
@@ -55,9 +54,10 @@ octets_spelled xs = refl
 pub octets_give : (n : ℕ) (old new : Reader) (xs : List ℕ) → length xs ≡ n → ((i : ℕ) → get_or xs i 0 < 256) → left old ≡ bits_of xs ++ left new → new ≡ moved old (8 * n) → Gives (octets n) old new (Ok xs)
 octets_give n old new xs many below spelled ok =
     let size : length (flat_map (num 8) xs) ≡ 8 * n = ap (λ (t : List Bool). length t) (octets_spelled xs) ∙ length-bits_of xs ∙ ap (λ (k : ℕ). 8 * k) many in
-    let text : left old ≡ flat_map (num 8) xs ++ left new = spelled ∙ ap (λ (t : List Bool). t ++ left new) (sym (octets_spelled xs)) in
-    ((octets-exact n).again old xs (left new) (many, bytes_fit xs below) text ∙ ap (λ (s : Reader). Ok (xs, s)) (ap (λ (k : ℕ). moved old k) size ∙ sym ok),
-     (ap (λ (q : Reader). q.text) ok, omega (arith, ap (λ (q : Reader). q.at) ok)))
+    let text : left old ≡ flat_map (num 8) xs ++ left new = spelled ∙ ap (λ (t : List Bool). t ++ left new) (sym (octets_spelled xs)) in (
+      (octets-exact n).again old xs (left new) (many, bytes_fit xs below) text ∙ ap (λ (s : Reader). Ok (xs, s)) (ap (λ (k : ℕ). moved old k) size ∙ sym ok),
+      (ap (λ (q : Reader). q.text) ok, omega (arith, ap (λ (q : Reader). q.at) ok)),
+    )
 
 octets_long : (n : ℕ) (xs : List ℕ) → (times n (bits 8)).Fits xs → length (flat_map (num 8) xs) ≡ 8 * n
 octets_long n xs fits = ap (λ (t : List Bool). length t) (octets_spelled xs) ∙ length-bits_of xs ∙ ap (λ (k : ℕ). 8 * k) fits.0
@@ -68,9 +68,10 @@ octets_short n old lt = whole_short short_at (times n (bits 8)) (times-exact n (
 
 -- n bits that were taken
 pub run_gives : (n : ℕ) (old new : Reader) (t : List Bool) → length t ≡ n → left old ≡ t ++ left new → new ≡ moved old n → Gives (bit_run n) old new (Ok t)
-run_gives n old new t many spelled ok =
-    ((bit_run-exact n).again old t (left new) (many, refl) spelled ∙ ap (λ (s : Reader). Ok (t, s)) (ap (λ (k : ℕ). moved old k) many ∙ sym ok),
-     (ap (λ (q : Reader). q.text) ok, omega (arith, ap (λ (q : Reader). q.at) ok)))
+run_gives n old new t many spelled ok = (
+  (bit_run-exact n).again old t (left new) (many, refl) spelled ∙ ap (λ (s : Reader). Ok (t, s)) (ap (λ (k : ℕ). moved old k) many ∙ sym ok),
+  (ap (λ (q : Reader). q.text) ok, omega (arith, ap (λ (q : Reader). q.at) ok)),
+)
 
 pub run_short : (n : ℕ) (old : Reader) → length (left old) < n → (bit_run n).read old ≡ Err (short_at old.at)
 run_short n old lt = ap (parsed short_at none_refused old) (run_none n (left old) lt)

@@ -68,7 +68,7 @@ impl Bits {
         self.items.get(i as usize).copied()
     }
 
-    /// Adds a bit at the end. A refusal leaves the list as it was.
+    /// Adds a bit at the end. The one error is want of memory, and leaves the list as it was.
     pub fn push(&mut self, bit: bool) -> Result<(), AllocError>
         ensures ok { OnOk result (self.new ≡ self.old ++ bit ∷ []) }
         ensures err { OnErr result (self.new ≡ self.old) }
@@ -92,7 +92,7 @@ impl Bits {
         self.items.truncate(len);
     }
 
-    /// A copy of the bits.
+    /// A copy of the bits. The one error is want of memory.
     pub fn copy(&self, alloc: Global) -> Result<Bits, AllocError>
         ensures { IfOk result (λ bits. bits ≡ self.now) }
     {

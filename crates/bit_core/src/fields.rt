@@ -5,7 +5,9 @@ ghost use Rattle.bit_core.specs.Plain.{bits, bit};
 use crate::faults::Short;
 use crate::reader::BitReader;
 
-/// Takes a number of at most 8 bits.
+/// Takes a number of at most 8 bits, most significant bit first.
+///
+/// Errors: `Short` at the first of these bits, where fewer than n are left; nothing is taken.
 pub fn small(reader: &mut BitReader, n: u32) -> Result<u8, Short>
     requires { n ≤ 8 }
     ensures below { IfOk result (λ v. v < 2 ^ n) }
@@ -18,7 +20,9 @@ pub fn small(reader: &mut BitReader, n: u32) -> Result<u8, Short>
     Ok(value as u8)
 }
 
-/// Takes one bit, as a truth value.
+/// Takes one bit, as a truth value: 1 is true.
+///
+/// Errors: `Short` at the place of the bit, where none is left.
 pub fn flag(reader: &mut BitReader) -> Result<bool, Short>
     ensures reads { Reads bit reader.old reader.new result }
 

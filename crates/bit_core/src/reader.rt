@@ -15,7 +15,15 @@ use std::marker::Model;
 
 /// Takes fields off the bits of a slice, or off a part of them.
 ///
-/// Places are bits, counted from the first bit of the slice. A call that is refused leaves the reader where it was.
+/// Places are bits, counted from the first bit of the slice; the most significant bit of a byte is its first. A call that
+/// is refused leaves the reader where it was.
+///
+/// ```text
+/// let mut reader = BitReader::new(&[0xA5, 0xF0]);
+/// reader.take(4)     // Ok(10)
+/// reader.take(8)     // Ok(0x5F)
+/// reader.take(5)     // Err(Short { at: 12 }), and reader.at() is 12
+/// ```
 #[derive(Drop)]
 pub struct BitReader<'a> {
     bytes: &'a [u8],
@@ -48,7 +56,8 @@ impl<'a> BitReader<'a> {
         }
     }
 
-    /// A reader of the bits of a slice from the bit `from` up to the bit `to`, which is not read.
+    /// A reader of the bits of a slice of at most 16,777,216 bytes from the bit `from` up to the bit `to`, which is not
+    /// read. Places are still counted from the first bit of the slice.
     pub fn within(bytes: &'a [u8], from: u64, to: u64) -> BitReader<'a>
         requires size { length bytes.now ≤ 16777216 }
         requires order { from ≤ to }
@@ -62,7 +71,7 @@ impl<'a> BitReader<'a> {
         }
     }
 
-    /// The place of the next bit.
+    /// The place of the next bit, at most 134,217,728.
     pub fn at(&self) -> u64
         ensures at { result ≡ self.now.at }
         ensures within { self.now.at ≤ length self.now.text }
@@ -78,7 +87,7 @@ impl<'a> BitReader<'a> {
         self.end - self.at
     }
 
-    /// Goes back to a place that the reader has passed.
+    /// Goes back to a place, in bits, that the reader has passed or stands at.
     pub fn back_to(&mut self, at: u64)
         requires { at ≤ self.old.at }
         ensures { self.new ≡ record self.old { at = at } }
@@ -87,6 +96,8 @@ impl<'a> BitReader<'a> {
     }
 
     /// Takes a number of at most 32 bits, most significant bit first.
+    ///
+    /// Errors: `Short` at the first of these bits, where fewer than n are left; nothing is taken.
     pub fn take(&mut self, n: u32) -> Result<u32, Short>
         requires { n ≤ 32 }
         ensures below { IfOk result (λ v. v < 2 ^ n) }
@@ -108,6 +119,8 @@ impl<'a> BitReader<'a> {
     }
 
     /// Passes n bits without looking at them.
+    ///
+    /// Errors: `Short` at the first of these bits, where fewer than n are left; none is passed.
     pub fn skip(&mut self, n: u64) -> Result<(), Short>
         ensures ok { OnOk result (self.new ≡ moved self.old n) }
         ensures short { IsErr result ↔ (length (left self.old) < n) }
@@ -122,6 +135,8 @@ impl<'a> BitReader<'a> {
     }
 
     /// Takes n bytes, which may begin at any bit.
+    ///
+    /// Errors: `Short` at the first of these bits, where fewer than 8 n are left, or want of memory; nothing is taken.
     pub fn take_bytes(&mut self, alloc: Global, n: u64) -> Result<Octets, ReadFault>
         ensures reads { ReadsUnless is_memory (wrapped ReadFault.Short (octets n)) self.old self.new result }
 
@@ -137,6 +152,8 @@ impl<'a> BitReader<'a> {
     }
 
     /// Takes n bits as they are.
+    ///
+    /// Errors: `Short` at the first of these bits, where fewer than n are left, or want of memory; nothing is taken.
     pub fn take_bits(&mut self, alloc: Global, n: u64) -> Result<Bits, ReadFault>
         ensures reads { ReadsUnless is_memory (wrapped ReadFault.Short (bit_run n)) self.old self.new result }
 

@@ -1,7 +1,80 @@
-use crate::BitReader;
+use crate::{BitReader, Bits, Octets, ReadFault, Short, flag, small};
+use std::alloc::{AllocError, Global};
+use std::test::Fail;
+
+// 1010 0101 1111 0000 0000 1111
+const BYTES: [u8; 3] = [0xA5, 0xF0, 0x0F];
 
 #[test]
-fn reads_a_byte(rt: HostRuntime) {
-    let mut reader = BitReader::new(b"\xA5");
-    assert_eq!(rt; reader.take(4).ok(), Some(10));
+fn reader_takes_numbers(rt: HostRuntime) {
+    let mut reader = BitReader::new(&BYTES);
+    assert_eq!(rt; reader.take(4), Ok(10));
+    assert_eq!(rt; reader.take(8), Ok(0x5F));
+    assert_eq!(rt; (reader.at(), reader.left()), (12, 12));
+    assert_eq!(rt; reader.take(32), Err(Short { at: 12 }));
+    assert_eq!(rt; reader.skip(12), Ok(()));
+    assert_eq!(rt; reader.skip(1), Err(Short { at: 24 }));
+    let mut part = BitReader::within(&BYTES, 4, 12);
+    assert_eq!(rt; (part.at(), part.left()), (4, 8));
+    assert_eq!(rt; part.take(8), Ok(0x5F));
+    assert_eq!(rt; flag(&mut part), Err(Short { at: 12 }));
+    part.back_to(4);
+    assert_eq!(rt; flag(&mut part), Ok(false));
+    assert_eq!(rt; small(&mut part, 3), Ok(5));
+}
+
+#[test]
+fn reader_takes_bytes_and_bits(rt: HostRuntime) -> Result<(), Fail> {
+    let alloc = rt.alloc();
+    for (from, wanted) in [(16, [0x0F].as_slice()), (1, &[0x4B, 0xE0])] {
+        let mut reader = BitReader::new(&BYTES);
+        reader.skip(from)?;
+        let bytes = reader.take_bytes(alloc, wanted.len() as u64)?;
+        assert_eq!(rt; bytes.as_slice(), wanted, "from {from}");
+    }
+    let mut reader = BitReader::within(&BYTES, 1, 24);
+    let refusal = reader.take_bytes(alloc, 3);
+    assert!(rt; matches!(refusal, Err(ReadFault::Short(Short { at: 1 }))));
+    assert_eq!(rt; reader.at(), 1);
+    reader.back_to(0);
+    let bits = reader.take_bits(alloc, 5)?;
+    assert!(rt; bits.same(&bits_of(alloc, &[true, false, true, false, false])?));
+    Ok(())
+}
+
+fn bits_of(alloc: Global, items: &[bool]) -> Result<Bits, AllocError> {
+    let mut bits = Bits::new(alloc);
+    for bit in items {
+        bits.push(*bit)?;
+    }
+    Ok(bits)
+}
+
+#[test]
+fn bits_are_trimmed(rt: HostRuntime) -> Result<(), Fail> {
+    let alloc = rt.alloc();
+    let mut bits = bits_of(alloc, &[true, false, true, false, false])?;
+    bits.trim();
+    assert_eq!(rt; bits.len(), 3);
+    assert_eq!(rt; (bits.get(1), bits.get(9)), (Some(false), None));
+    assert!(rt; bits.same(&bits.copy(alloc)?));
+    assert!(rt; bits.same(&bits_of(alloc, &[true, false, true])?));
+    assert!(rt; !bits.same(&bits_of(alloc, &[true, false])?));
+    Ok(())
+}
+
+#[test]
+fn octets_are_listed(rt: HostRuntime) -> Result<(), Fail> {
+    let alloc = rt.alloc();
+    let mut pushed = Octets::new(alloc);
+    for byte in [1, 2] {
+        pushed.push(byte)?;
+    }
+    let held = Octets::from_vec([1, 2].to_vec(alloc)?);
+    for octets in [pushed, held, Octets::copy_of(alloc, &[1, 2])?] {
+        assert_eq!(rt; octets.as_slice(), [1, 2].as_slice());
+        assert_eq!(rt; octets.len(), 2);
+        assert_eq!(rt; (octets.get(1), octets.get(2)), (Some(&2), None));
+    }
+    Ok(())
 }

@@ -11,7 +11,9 @@ use bit_core::{BitReader, Short, small};
 pub struct SlotLength;
 
 impl SlotLength {
-    /// Reads a length. A refusal stands at its first bit, and leaves the reader there.
+    /// Reads a length, in bytes.
+    ///
+    /// Errors: `Short` at the first bit of the length, where the text ends within it; the reader stays there.
     pub fn read(reader: &mut BitReader) -> Result<u32, Short>
         ensures reads { Reads slot reader.old reader.new result }
 

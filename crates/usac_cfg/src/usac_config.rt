@@ -7,9 +7,16 @@ use bit_core::BitReader;
 use std::alloc::Global;
 
 /// A configuration (ISO/IEC 23003-3, UsacConfig) of one channel in one single channel element, without SBR.
+///
+/// ```text
+/// let mut reader = BitReader::new(&[0x19, 0x08, 0x08]);
+/// let config = UsacConfig::read(alloc, &mut reader)?;
+/// config.frame_length()     // 1024
+/// reader.at()               // 22
+/// ```
 #[derive(Clone, Copy, Debug, PartialEq, Eq)]
 pub struct UsacConfig {
-    /// `usacSamplingFrequencyIndex`, which names the rate of the decoder's output.
+    /// `usacSamplingFrequencyIndex`, which names the rate of the decoder's output: below 28, and neither 13 nor 14.
     pub rate_index: u8,
     /// `coreSbrFrameLengthIndex`: 0 for 768 samples a frame, 1 for 1024.
     pub frame_index: u8,
@@ -23,7 +30,9 @@ impl UsacConfig {
     ghost use Rattle.usac_cfg.specs.Faults.{is_memory};
     ghost use Rattle.layout.specs.Reading.{GivesUnless, ReadsUnless};
 
-    /// Reads a configuration. A refusal leaves the reader where it was.
+    /// Reads a configuration, and takes its 22 bits.
+    ///
+    /// Errors: `Short` or `FormNotBuilt` at the first bit of the leftmost field at fault; the reader stays where it was.
     pub fn read(alloc: Global, reader: &mut BitReader) -> Result<UsacConfig, CfgFault>
         ensures reads { ReadsUnless is_memory usac_config reader.old reader.new result }
 
@@ -41,7 +50,7 @@ impl UsacConfig {
         }
     }
 
-    /// The number of samples of a frame and a channel at the decoder's output.
+    /// The number of samples of a frame and a channel at the decoder's output: 768 or 1024.
     pub fn frame_length(&self) -> u32
         requires { IsWellFormed self.now }
         ensures { result ≡ frame_length self.now }
@@ -49,7 +58,7 @@ impl UsacConfig {
         if self.frame_index == 0 { 768 } else { 1024 }
     }
 
-    /// The number of output channels.
+    /// The number of output channels: 1 in the form that is built.
     pub fn channels(&self) -> u32
         ensures { result ≡ channels self.now }
     {

@@ -1,7 +1,7 @@
 // Worked streams, in pieces of several sizes.
 ghost use Rattle.std.specs.Prelude.{◌≤◌};
 
-use crate::FrameReader;
+use crate::reader::FrameReader;
 use outside::{FromShelf, MemShelf, Shelf};
 use std::process::Abort;
 use std::test::Fail;
@@ -22,7 +22,7 @@ fn check(rt: &(impl Abort + AllocGlobal), case: &Case<'_>, piece: usize) -> Resu
 {
     let alloc = rt.alloc();
     let mut shelf = MemShelf::new(alloc, piece, case.failing_reads)?;
-    shelf.add(alloc, "in", case.bytes)?;
+    shelf.add("in", case.bytes)?;
     let id = shelf.begin(alloc, "in")?;
     let mut source = FromShelf::new(&mut shelf, id);
     let mut reader = FrameReader::new(alloc);

@@ -1,4 +1,4 @@
-use Rattle.std.proofs.Common.{◌≡◌, sym, ◌∙◌, ap, refl, get_or, ◌/◌, ◌%◌, ◌-◌, eqb}
+use Rattle.std.proofs.Common.{sym}
 use Rattle.std.proofs.lemmas.Nat.Bits.{shr_and_one}
 use Rattle.layout.proofs.TextLemmas.{get_or-bits_of}
 use Rattle.bit_core.proofs.slices.bit_at.Goals as goal

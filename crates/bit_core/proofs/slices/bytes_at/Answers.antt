@@ -1,4 +1,4 @@
-use Rattle.std.proofs.Common.{◌≡◌, ◌+◌, ◌<◌, arith, ◌∙◌, ap, List, ℕ, length, refl, take, drop, ◌∷◌, []}
+use Rattle.std.proofs.Common.{◌<◌, arith, ◌∙◌, ap, List, ℕ, length, drop, ◌∷◌, []}
 use Rattle.std.proofs.lemmas.List.{length-append}
 use Rattle.layout.specs.Text.{bits_of}
 use Rattle.bit_core.proofs.SliceLemmas.{next_octet, no_octets, bytes_push}
@@ -19,5 +19,5 @@ loop-i-preserved c =
       many = omega (arith, ap (λ (xs : List ℕ). length xs) c.in_ok-push.ensures.items, length-append c.loop-i.copied.items (c.number_at-byte.result ∷ []), c.loop-i.invariant.many);
       bytes = λ k. rw c.in_ok-push.ensures.items (bytes_push c.loop-i.copied.items c.number_at-byte.result c.number_at-byte.ensures.below c.loop-i.invariant.bytes k);
       same = ap (λ (xs : List ℕ). bits_of xs) c.in_ok-push.ensures.items
-        ∙ next_octet c.args.bytes.now c.args.at i c.number_at-byte.result c.loop-i.copied.items (omega (arith, c.requires.within, lt)) c.loop-i.invariant.same c.number_at-byte.ensures.spelled;
+          ∙ next_octet c.args.bytes.now c.args.at i c.number_at-byte.result c.loop-i.copied.items (omega (arith, c.requires.within, lt)) c.loop-i.invariant.same c.number_at-byte.ensures.spelled;
     }

@@ -1,4 +1,4 @@
-use Rattle.std.proofs.Common.{◌≡◌, ◌≤◌, ◌+◌, ◌*◌, ◌-◌, ◌/◌, ◌%◌, ◌^◌, arith, sym, ap, ◌∙◌, ℕ, List, length, take, drop, subst}
+use Rattle.std.proofs.Common.{◌≡◌, ◌≤◌, ◌+◌, ◌*◌, ◌-◌, ◌/◌, ◌%◌, ◌^◌, arith, sym, ap, ◌∙◌, ℕ, length, take, drop}
 use Rattle.std.proofs.lemmas.List.{length-take-le, length-drop}
 use Rattle.layout.specs.Text.{num, bits_of}
 use Rattle.bit_core.proofs.SliceLemmas.{number_there}

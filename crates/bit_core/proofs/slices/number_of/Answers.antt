@@ -1,4 +1,4 @@
-use Rattle.std.proofs.Common.{◌≡◌, ◌≤◌, ◌^◌, ◌*◌, ◌<◌, arith, refl, ap, sym, ◌∙◌, subst, ℕ, List, length, take}
+use Rattle.std.proofs.Common.{◌≡◌, ◌≤◌, ◌^◌, ◌*◌, ◌<◌, arith, refl, ap, sym, ◌∙◌, subst, ℕ, List, length}
 use Rattle.std.proofs.lemmas.List.{take_all}
 use Rattle.bit_core.proofs.SliceLemmas.{next_byte, at_most_32}
 use Rattle.layout.specs.Text.{num, bits_of}

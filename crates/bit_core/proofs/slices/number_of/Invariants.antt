@@ -1,4 +1,4 @@
-use Rattle.std.proofs.Common.{◌≡◌, ◌*◌, ◌^◌, ◌<◌, ◌≤◌, take, length}
+use Rattle.std.proofs.Common.{◌≡◌, ◌*◌, ◌^◌, ◌<◌, take}
 use Rattle.layout.specs.Text.{num, bits_of}
 use Rattle.bit_core.proofs.slices.number_of.Given as goal
 

@@ -1,4 +1,4 @@
-use Rattle.std.proofs.Common.{◌≡◌, sym, ap, arith}
+use Rattle.std.proofs.Common.{arith}
 use Rattle.std.proofs.lemmas.List.{length-take}
 use Rattle.layout.specs.Text.{bits_of}
 use Rattle.layout.proofs.TextLemmas.{length-bits_of}

@@ -1,4 +1,4 @@
-use Rattle.std.proofs.Common.{◌≡◌, sym, ap, arith, take, ◌*◌, length, ◌≤◌, refl}
+use Rattle.std.proofs.Common.{arith, ◌*◌, length, ◌≤◌, refl}
 use Rattle.std.proofs.lemmas.List.{take_all}
 use Rattle.layout.specs.Text.{bits_of}
 use Rattle.layout.proofs.TextLemmas.{length-bits_of}

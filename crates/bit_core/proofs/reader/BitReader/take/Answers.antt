@@ -1,6 +1,5 @@
-use Rattle.std.proofs.Common.{◌≡◌, ◌≤◌, ◌+◌, arith, sym, refl, ◌∙◌, Ok, Err, rules}
+use Rattle.std.proofs.Common.{◌≤◌, ◌+◌, arith, Ok, rules}
 use Rattle.layout.specs.Text.{bits_of}
-use Rattle.layout.specs.Reader.{left}
 use Rattle.layout.proofs.TextLemmas.{left_parts, length-left}
 use Rattle.bit_core.proofs.PlainFacts.{number_gives}
 use Rattle.bit_core.proofs.reader.BitReader.take.Goals as goal

@@ -1,4 +1,4 @@
-use Rattle.std.proofs.Common.{◌≡◌, ◌≤◌, ◌<◌, ◌+◌, ◌*◌, arith, refl, ap, sym, ◌∙◌, Ok, Err, List, ℕ, length, Bool, take, drop}
+use Rattle.std.proofs.Common.{◌≡◌, ◌≤◌, ◌<◌, ◌+◌, arith, refl, ap, ◌∙◌, List, length, Bool, take, drop}
 use Rattle.std.proofs.lemmas.List.{length-take, length-drop}
 use Rattle.layout.specs.Text.{bits_of}
 use Rattle.layout.specs.Reader.{left}
@@ -29,7 +29,7 @@ returns-clause-exact c =
     let within : i.at + c.args.n ≤ i.end = omega (arith, length-left i.bytes.now i.at i.end c.self.invariant.1, rw (← c.self.view_is) at c.left.ensures, c.if-left-n.false) in
     let many : length text ≡ c.args.n = omega (arith, ap (λ (t : List Bool). length t) same, length-take c.args.n (drop i.at (bits_of i.bytes.now)), length-drop i.at (bits_of i.bytes.now), length-bits_of i.bytes.now, c.self.invariant.1) in
     rw (← c.self.view_is) (gives_wrapped is_memory (λ s. faults.Short s) (bit_run c.args.n) _ _ text
-      (run_gives c.args.n _ _ text many (part_behind (bits_of i.bytes.now) i.at c.args.n i.end text within same) refl))
+    (run_gives c.args.n _ _ text many (part_behind (bits_of i.bytes.now) i.at c.args.n i.end text within same) refl))
 
 pub returns-clause-reads : goal.returns-clause-reads
 returns-clause-reads c =

@@ -1,4 +1,4 @@
-use Rattle.std.proofs.Common.{◌≡◌, ◌≤◌, ◌<◌, ◌+◌, ◌*◌, arith, refl, ap, sym, ◌∙◌, Ok, Err, List, ℕ, length}
+use Rattle.std.proofs.Common.{◌≡◌, ◌≤◌, ◌<◌, ◌+◌, ◌*◌, arith, refl, ap, length}
 use Rattle.layout.specs.Text.{bits_of}
 use Rattle.layout.specs.Reader.{left}
 use Rattle.layout.specs.Layout.{wrapped}
@@ -27,8 +27,8 @@ returns-clause-exact c =
     let same : xs ≡ c.in_ok-bytes.bytes.items = c.from_vec.ensures in
     let within : i.at + 8 * c.args.n ≤ i.end = omega (arith, length-left i.bytes.now i.at i.end c.self.invariant.1, rw (← c.self.view_is) at c.left.ensures, c.if-left-n.false) in
     rw (← c.self.view_is) (gives_wrapped is_memory (λ s. faults.Short s) (octets c.args.n) _ _ xs
-      (octets_give c.args.n _ _ xs (rw same c.in_ok-bytes.ensures.many) (rw same c.in_ok-bytes.ensures.bytes)
-        (part_behind (bits_of i.bytes.now) i.at (8 * c.args.n) i.end (bits_of xs) within (rw same c.in_ok-bytes.ensures.same)) refl))
+    (octets_give c.args.n _ _ xs (rw same c.in_ok-bytes.ensures.many) (rw same c.in_ok-bytes.ensures.bytes)
+    (part_behind (bits_of i.bytes.now) i.at (8 * c.args.n) i.end (bits_of xs) within (rw same c.in_ok-bytes.ensures.same)) refl))
 
 pub returns-clause-reads : goal.returns-clause-reads
 returns-clause-reads c =

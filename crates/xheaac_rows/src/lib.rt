@@ -1,0 +1,10 @@
+//! Worked streams through the commands, over devices in memory that fail where they are told to, and the
+//! core that the rows of faults take: [`FailingCore`] is the example core, but fails at one call.
+#![tactic(auto)]
+
+mod failing_core;
+
+pub use failing_core::FailingCore;
+
+#[cfg(test)]
+mod rows;

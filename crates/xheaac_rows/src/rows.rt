@@ -1,0 +1,273 @@
+// Worked cases of the commands over devices in memory.
+ghost use Rattle.std.specs.Prelude.{◌≤◌, ◌^◌};
+
+use crate::FailingCore;
+use core_iface::{Core, FoldCore};
+use outside::{MemShelf, MemSink};
+use std::alloc::{AllocError, Global};
+use std::process::Abort;
+use std::test::Fail;
+use xheaac_tool::{Outcome, do_play, run};
+
+// Two frames: the samples of the first are 2, 3, .. 1025, and those of the second 13, 14, .. 1036.
+const PLAIN: &[u8] =
+    b"\x56\xE0\x0B\x20\x00\xF9\x46\x23\x21\x01\x0F\xF0\x06\x80\x56\xE0\x03\x80\x88\x00";
+
+const USAGE: &str =
+    "usage: xheaac show|check|play FILE | start FILE FRAME | plan|splice|switch FILE POS [FILE POS]... | insert FILE K FADE TARGETS | strip FILE TAIL TARGETS | make START FRAMES\n";
+
+// What the shelf holds as `in`, how the devices fail, and what comes of it.
+#[derive(Clone, Copy)]
+struct Case<'a> {
+    words: &'a [&'a str],
+    bytes: &'a [u8],
+    failing_reads: &'a [u64],
+    failing_writes: &'a [u64],
+    failing_notes: &'a [u64],
+    status: u8,
+    /// How many bytes of the samples of the two frames are written.
+    written: usize,
+    note: &'a str,
+    fed: u64,
+}
+
+const WHOLE: Case<'static> = Case {
+    words: &["play", "in"],
+    bytes: PLAIN,
+    failing_reads: &[],
+    failing_writes: &[],
+    failing_notes: &[],
+    status: 0,
+    written: 4096,
+    note: "",
+    fed: 2,
+};
+
+// The bytes of the samples of both frames.
+fn samples(alloc: Global) -> Result<Vec<u8>, AllocError> {
+    let mut bytes = Vec::new(alloc);
+    for first in [2u16, 13] {
+        for time in 0..1024u16 {
+            bytes.extend_from_slice(&first.wrapping_add(time).to_le_bytes())?;
+        }
+    }
+    Ok(bytes)
+}
+
+// Runs a case where the devices take and give pieces of a size.
+fn check<C: Core>(
+    rt: &(impl Abort + AllocGlobal),
+    piece: usize,
+    case: Case<'_>,
+    core: &mut C,
+) -> Result<(), Fail>
+    requires piece { 1 ≤ piece }
+    requires fed { (C.meaning core.old).fed ≤ 2 ^ 63 }
+{
+    let alloc = rt.alloc();
+    let mut shelf = MemShelf::new(alloc, piece, case.failing_reads)?;
+    shelf.add("in", case.bytes)?;
+    let mut out = MemSink::new(alloc, piece, case.failing_writes)?;
+    let mut note = MemSink::new(alloc, piece, case.failing_notes)?;
+    let mut words = Vec::new(alloc);
+    for word in case.words {
+        words.push(String::from_str(alloc, word)?)?;
+    }
+    let before = core.fed();
+    let status = run(alloc, &words, &mut shelf, &mut out, &mut note, core);
+    let all = samples(alloc)?;
+    assert_eq!(rt; status, case.status);
+    assert_eq!(rt; out.bytes(), all.get(..case.written).unwrap_or(&[]));
+    assert_eq!(rt; note.bytes(), case.note.as_bytes());
+    assert_eq!(rt; core.fed().wrapping_sub(before), case.fed);
+    Ok(())
+}
+
+#[test]
+fn plays_streams(rt: HostRuntime) -> Result<(), Fail> {
+    let cases = [
+        WHOLE,
+        Case {
+            bytes: &PLAIN[..19],
+            status: 1,
+            written: 2048,
+            note: "refused: frame 1: form not built\n",
+            fed: 1,
+            ..WHOLE
+        },
+        Case {
+            bytes: b"\x00",
+            status: 1,
+            written: 0,
+            note: "refused: frame 0: form not built\n",
+            fed: 0,
+            ..WHOLE
+        },
+        Case {
+            bytes: b"",
+            written: 0,
+            fed: 0,
+            ..WHOLE
+        },
+    ];
+    for case in cases {
+        for piece in [5000, 1] {
+            check(&rt, piece, case, &mut FoldCore::new())?;
+        }
+    }
+    Ok(())
+}
+
+// A case in which one call of a device or of the core fails.
+fn ended<'a>(status: u8, written: usize, fed: u64) -> Case<'a> {
+    let note = match status {
+        3 => "read fault\n",
+        4 => "write fault\n",
+        5 => "core fault\n",
+        _ => "",
+    };
+    Case {
+        status,
+        written,
+        note,
+        fed,
+        ..WHOLE
+    }
+}
+
+#[test]
+fn a_read_fails(rt: HostRuntime) -> Result<(), Fail> {
+    // in pieces of one byte the first frame is there behind 14 reads, the second behind 20, and the end at the 21st
+    let rows: [(usize, u64, u64, Case<'_>); 7] = [
+        (5000, 1, 2, ended(3, 0, 0)),
+        (5000, 2, 3, ended(3, 4096, 2)),
+        (5000, 3, 4, WHOLE),
+        (1, 1, 15, ended(3, 0, 0)),
+        (1, 15, 21, ended(3, 2048, 1)),
+        (1, 21, 22, ended(3, 4096, 2)),
+        (1, 22, 23, WHOLE),
+    ];
+    for (piece, from, until, case) in rows {
+        for failing in from..until {
+            let failing_reads = [failing];
+            let case = Case {
+                failing_reads: &failing_reads,
+                ..case
+            };
+            check(&rt, piece, case, &mut FoldCore::new())?;
+        }
+    }
+    Ok(())
+}
+
+#[test]
+fn a_write_fails(rt: HostRuntime) -> Result<(), Fail> {
+    // one write a frame
+    for (failing, case) in [(1, ended(4, 0, 1)), (2, ended(4, 2048, 2)), (3, WHOLE)] {
+        let failing_writes = [failing];
+        let case = Case {
+            failing_writes: &failing_writes,
+            ..case
+        };
+        check(&rt, 5000, case, &mut FoldCore::new())?;
+    }
+    // one write a byte
+    for written in 0..4096usize {
+        let failing_writes = [written as u64 + 1];
+        let case = Case {
+            failing_writes: &failing_writes,
+            ..ended(4, written, if written < 2048 { 1 } else { 2 })
+        };
+        check(&rt, 1, case, &mut FoldCore::new())?;
+    }
+    Ok(())
+}
+
+#[test]
+fn the_core_fails(rt: HostRuntime) -> Result<(), Fail> {
+    // a reset, and one step a frame
+    let rows = [
+        (1, ended(5, 0, 0)),
+        (2, ended(5, 0, 0)),
+        (3, ended(5, 2048, 1)),
+        (4, WHOLE),
+    ];
+    for (failing, case) in rows {
+        check(&rt, 5000, case, &mut FailingCore::new(failing))?;
+        check(&rt, 1, case, &mut FailingCore::new(failing))?;
+    }
+    Ok(())
+}
+
+#[test]
+fn note_fails(rt: HostRuntime) -> Result<(), Fail> {
+    let refused = Case {
+        bytes: b"\x00",
+        ..ended(1, 0, 0)
+    };
+    let read = Case {
+        failing_reads: &[1],
+        ..ended(3, 0, 0)
+    };
+    let usage = Case {
+        words: &[],
+        ..ended(2, 0, 0)
+    };
+    for (case, front) in [(refused, "refus"), (read, "read "), (usage, "usage")] {
+        let at_once = Case {
+            failing_notes: &[1],
+            note: "",
+            ..case
+        };
+        check(&rt, 1, at_once, &mut FoldCore::new())?;
+        let behind_five = Case {
+            failing_notes: &[6],
+            note: front,
+            ..case
+        };
+        check(&rt, 1, behind_five, &mut FoldCore::new())?;
+    }
+    Ok(())
+}
+
+#[test]
+fn no_such_file(rt: HostRuntime) -> Result<(), Fail> {
+    let case = Case {
+        words: &["play", "other"],
+        ..ended(3, 0, 0)
+    };
+    check(&rt, 5000, case, &mut FoldCore::new())
+}
+
+// The same command without its note.
+#[test]
+fn plays_without_note(rt: HostRuntime) -> Result<(), Fail> {
+    let alloc = rt.alloc();
+    let mut shelf = MemShelf::new(alloc, 5000, &[])?;
+    shelf.add("in", PLAIN)?;
+    let mut out = MemSink::new(alloc, 5000, &[])?;
+    let mut words = Vec::new(alloc);
+    words.push(String::from_str(alloc, "play")?)?;
+    words.push(String::from_str(alloc, "in")?)?;
+    let outcome = do_play(alloc, &words, &mut shelf, &mut out, &mut FoldCore::new());
+    assert!(rt; matches!(outcome, Outcome::Done));
+    assert_eq!(rt; out.bytes(), samples(alloc)?.as_slice());
+    Ok(())
+}
+
+#[test]
+fn answers_the_usage(rt: HostRuntime) -> Result<(), Fail> {
+    let no_words: [&[&str]; 4] = [&["play"], &["play", "a", "b"], &[], &["--help"]];
+    for words in no_words {
+        let case = Case {
+            words,
+            status: 2,
+            written: 0,
+            note: USAGE,
+            fed: 0,
+            ..WHOLE
+        };
+        check(&rt, 5000, case, &mut FoldCore::new())?;
+    }
+    Ok(())
+}
