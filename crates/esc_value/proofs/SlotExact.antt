@@ -1,17 +1,15 @@
 -- Slot lengths are read exactly.
-use Rattle.std.proofs.Common.{◌≡◌, ℕ, zero, suc, ◌+◌, ◌-◌, ◌*◌, ◌/◌, ◌%◌, ◌^◌, ◌<◌, ◌≤◌, Bool, true, false, cond, eqb, List, [], ◌∷◌, ◌++◌, length, replicate, Option, Some, None, Result, Ok, Err, refl, sym, ap, subst, ◌∙◌, append_assoc, arith, inl, inr}
-use Rattle.std.specs.Prelude.{◌⊎◌}
-use Rattle.std.specs.List.{flat_map}
+use Rattle.std.proofs.Common.{◌≡◌, ℕ, zero, suc, ◌+◌, ◌-◌, ◌*◌, ◌/◌, ◌%◌, ◌<◌, Bool, List, [], ◌∷◌, ◌++◌, length, replicate, Result, Ok, Err, refl, sym, ap, subst, ◌∙◌, append_assoc, arith, inl, inr}
 use Rattle.std.proofs.lemmas.Bool.{cases_eq, eq-eqb, ne_eqb, cases_lt}
 use Rattle.std.proofs.lemmas.List.{append-nil, length-append, length-replicate}
 use Rattle.bit_core.specs.declared.faults.Short.{Short}
 use Rattle.layout.specs.Text.{num, bits_of}
 use Rattle.layout.specs.Reader.{Reader, left, moved}
 use Rattle.layout.proofs.TextLemmas.{length-num, length-bits_of}
-use Rattle.layout.specs.Layout.{◌>>=◌, Layout, at_start, IsProperPrefix}
+use Rattle.layout.specs.Layout.{◌>>=◌, at_start, IsProperPrefix}
 use Rattle.layout.specs.Fields.{number}
 use Rattle.bit_core.specs.Plain.{bits, short_at}
-use Rattle.layout.specs.Exact.{IsExact, IsOpen}
+use Rattle.layout.specs.Exact.{IsExact}
 use Rattle.layout.proofs.Layouts.{bind_ok, bind_err, done, failed, ok_is, err_is, left_moved, moved_twice, field-open}
 use Rattle.bit_core.proofs.PlainFacts.{bits-exact}
 use Rattle.esc_value.specs.SlotLength.{slot_text, slot_step, slot_more, slot_read, slot}

@@ -1,10 +1,9 @@
 -- A length that is added up byte by byte.
-use Rattle.std.proofs.Common.{◌≡◌, ℕ, ◌+◌, ◌*◌, ◌<◌, ◌≤◌, Bool, List, [], ◌∷◌, ◌++◌, length, Ok, Err, Result, refl, sym, ap, ◌∙◌, append_assoc, arith}
-use Rattle.std.proofs.lemmas.List.{length-append, append-nil}
+use Rattle.std.proofs.Common.{◌≡◌, ℕ, ◌+◌, ◌*◌, ◌<◌, ◌≤◌, Bool, List, [], ◌∷◌, ◌++◌, length, Ok, Err, refl, sym, ap, ◌∙◌, append_assoc, arith}
+use Rattle.std.proofs.lemmas.List.{length-append}
 use Rattle.bit_core.specs.declared.faults.Short.{Short}
 use Rattle.layout.specs.Text.{num}
 use Rattle.layout.specs.Reader.{Reader, left, moved}
-use Rattle.layout.specs.Layout.{IsProperPrefix}
 use Rattle.layout.specs.Fields.{number}
 use Rattle.layout.specs.Reading.{Gives}
 use Rattle.layout.proofs.TextLemmas.{length-num}

@@ -1,12 +1,12 @@
 -- Layouts put together of exact ones are exact.
-use Rattle.std.proofs.Common.{◌≡◌, ℕ, zero, suc, ◌+◌, ◌-◌, ◌*◌, ◌^◌, ◌<◌, ◌≤◌, Bool, true, false, cond, ltb, List, [], ◌∷◌, ◌++◌, length, get_or, take, drop, replicate, Option, Some, None, Result, Ok, Err, refl, sym, ap, subst, ◌∙◌, append_assoc, arith, inl, inr}
+use Rattle.std.proofs.Common.{◌≡◌, ℕ, zero, suc, ◌+◌, ◌-◌, ◌*◌, ◌^◌, ◌<◌, ◌≤◌, Bool, true, false, List, [], ◌∷◌, ◌++◌, length, take, drop, replicate, Option, Some, None, Result, Ok, Err, refl, sym, ap, subst, ◌∙◌, append_assoc, arith, inl, inr}
 use Rattle.std.specs.Prelude.{◌⊎◌, is_some, OnErr}
-use Rattle.std.proofs.lemmas.Bool.{cases_lt, cases_eq, ne_eqb, ltb-false, le-ltb, lt-ltb, ltb-true}
-use Rattle.std.proofs.lemmas.List.{drop_at, drop-drop, length-append, take_at, length-take, take-append-drop, append-nil, length-replicate, length-take-le, append_cancel_left}
+use Rattle.std.proofs.lemmas.Bool.{cases_lt, cases_eq, ne_eqb, le-ltb, lt-ltb}
+use Rattle.std.proofs.lemmas.List.{drop_at, drop-drop, length-append, take_at, take-append-drop, append-nil, length-replicate, length-take-le, append_cancel_left}
 use Rattle.std.specs.List.{flat_map, AllByRecursion}
 use Rattle.layout.specs.Exact.{IsField, IsExact, IsOpen}
-use Rattle.layout.specs.Fields.{Field, EndsWithin, IsRefused, field, parsed, judged, number, number_parse, flag, flag_parse, none_refused, run, run_parse}
-use Rattle.layout.specs.Layout.{◌>>=◌, Layout, IsProperPrefix, both, shaped, wrapped, error_mapped, known, where_set, FitsOption, spelling_of, read_where, whole, at_start, StopsWithin, checked, unless_refused, constant, unless_same}
+use Rattle.layout.specs.Fields.{Field, field, parsed, judged, number, number_parse, flag, none_refused, run, run_parse}
+use Rattle.layout.specs.Layout.{◌>>=◌, Layout, both, shaped, wrapped, error_mapped, known, where_set, FitsOption, spelling_of, whole, at_start, StopsWithin, checked, unless_refused, constant, unless_same}
 use Rattle.layout.specs.Reader.{Reader, left, moved}
 use Rattle.layout.specs.Reading.{Gives, GivesUnless, Reads, ReadsUnless}
 use Rattle.layout.specs.Text.{num, value_after}

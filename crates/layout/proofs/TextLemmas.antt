@@ -1,11 +1,9 @@
 -- What numbers and bytes spell, bit by bit.
 use Rattle.std.proofs.Common.{◌≡◌, ℕ, zero, suc, ◌+◌, ◌-◌, ◌*◌, ◌/◌, ◌%◌, ◌^◌, ◌<◌, ◌≤◌, Bool, true, false, eqb, List, [], ◌∷◌, ◌++◌, length, get_or, take, drop, refl, sym, ap, ◌∙◌, append_assoc, arith, inl, inr, add-one}
-use Rattle.std.specs.Prelude.{◌⊎◌}
-use Rattle.std.specs.List.{flat_map}
 use Rattle.std.specs.Int.{bit_at}
 use Rattle.std.proofs.lemmas.Bool.{cases_lt}
 use Rattle.std.proofs.lemmas.Nat.Bits.{bit_at-suc, bit_at_lowest}
-use Rattle.std.proofs.lemmas.List.{length-append, get_or_append_left, get_or_at, get_or-append-add, take_more, length-drop, length-take, get_or-drop, take-take, drop-drop, drop-take, take-append-drop, take_all, append-nil, length-take-le, drop_at, take_at}
+use Rattle.std.proofs.lemmas.List.{length-append, get_or_append_left, get_or_at, get_or-append-add, take_more, length-drop, length-take, get_or-drop, take-take, drop-drop, drop-take, take-append-drop, append-nil, length-take-le, drop_at, take_at}
 use Rattle.std.proofs.Math.Nat.{div-div-eq-div-mul}
 use Rattle.std.proofs.lemmas.Nat.{mod-pow-add}
 use mir.Val.{bool_byte}

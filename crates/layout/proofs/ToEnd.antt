@@ -1,10 +1,10 @@
 -- Layouts that take all of a text.
-use Rattle.std.proofs.Common.{◌≡◌, ℕ, zero, suc, ◌+◌, ◌-◌, ◌<◌, ◌≤◌, Bool, true, false, List, [], ◌∷◌, ◌++◌, length, take, drop, Result, Ok, Err, refl, sym, ap, subst, ◌∙◌, append_assoc, arith, inl, inr}
+use Rattle.std.proofs.Common.{◌≡◌, ℕ, ◌+◌, ◌<◌, ◌≤◌, Bool, List, ◌++◌, length, take, drop, Result, Ok, Err, refl, sym, ap, subst, ◌∙◌, arith, inl, inr}
 use Rattle.std.specs.Prelude.{◌⊎◌}
 use Rattle.std.proofs.lemmas.Bool.{cases_lt, le-ltb, lt-ltb}
-use Rattle.std.proofs.lemmas.List.{append-nil, drop_at, drop-drop, length-append, length-drop, length-take, take-append-drop, drop-take, take_at}
+use Rattle.std.proofs.lemmas.List.{length-append, length-take, take-append-drop, drop-take, take_at}
 use Rattle.layout.specs.Exact.{IsExact, IsExactToEnd}
-use Rattle.layout.specs.Layout.{◌>>=◌, Layout, both, shaped}
+use Rattle.layout.specs.Layout.{◌>>=◌, Layout, both}
 use Rattle.layout.specs.Reader.{Reader, left, moved}
 use Rattle.layout.specs.Laws.{Begins, IsDecided}
 use Rattle.layout.specs.ToEnd.{rest, tail, tail_read, inside, inside_read, window, back_out}

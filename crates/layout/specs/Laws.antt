@@ -1,5 +1,5 @@
 -- What is true of every layout that is read exactly.
-use Rattle.std.specs.Prelude.{◌≡◌, ◌⊎◌, ℕ, Bool, List, ◌++◌, Result, OnErr}
+use Rattle.std.specs.Prelude.{◌≡◌, ◌⊎◌, Bool, List, ◌++◌, Result, OnErr}
 use Rattle.layout.specs.Reader.{Reader}
 use Rattle.layout.specs.Layout.{Layout}
 use Rattle.layout.specs.Reading.{Gives, GivesUnless, Reads, ReadsUnless}

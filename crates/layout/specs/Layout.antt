@@ -1,6 +1,6 @@
 -- Layouts of bits: the values that can be had, how each is spelled, and the first fault of a text.
 use Rattle.std.specs.Prelude.{◌≡◌, ◌==◌, if◌then◌else◌, ℕ, ◌+◌, ◌⊎◌, Bool, true, false, List, [], ◌∷◌, ◌++◌, length, Option, Some, None, is_some, Result, Ok, Err}
-use Rattle.layout.specs.Reader.{Reader, left, moved}
+use Rattle.layout.specs.Reader.{Reader}
 
 infixl 10 ◌>>=◌
 abbrev pub ◌>>=◌ : {A B F : Type 0} → Result A F → (A → Result B F) → Result B F

@@ -1,5 +1,5 @@
 -- What a reader's call says of a layout.
-use Rattle.std.specs.Prelude.{◌≡◌, ◌≤◌, ℕ, Bool, true, false, List, ◌++◌, length, Result, Ok, Err, IfOk, IfErr, OnErr, IsErrAnd}
+use Rattle.std.specs.Prelude.{◌≡◌, ◌≤◌, Bool, true, false, List, ◌++◌, length, Result, Ok, Err, IfOk, IfErr, OnErr, IsErrAnd}
 use Rattle.layout.specs.Reader.{Reader, left, moved}
 use Rattle.layout.specs.Layout.{Layout}
 

@@ -1,5 +1,5 @@
 -- How a configuration of the built form is spelled, field by field (ISO/IEC 23003-3, UsacConfig).
-use Rattle.std.specs.Prelude.{◌≡◌, ℕ, Option, Some, None, nat_lt, ◌==◌, ◌||◌, if◌then◌else◌}
+use Rattle.std.specs.Prelude.{ℕ, Option, Some, None, nat_lt, ◌==◌, ◌||◌, if◌then◌else◌}
 use Rattle.layout.specs.Layout.{Layout, both, shaped, wrapped, checked, constant}
 use Rattle.bit_core.specs.Plain.{bits, bit}
 use Rattle.usac_cfg.specs.declared.core_config.CoreConfig.{CoreConfig}

@@ -1,5 +1,5 @@
 -- A configuration (ISO/IEC 23003-3, UsacConfig) of the form that is built so far, and what its fields stand for.
-use Rattle.std.specs.Prelude.{◌≡◌, ◌≢◌, ℕ, ◌<◌, ◌==◌, if◌then◌else◌}
+use Rattle.std.specs.Prelude.{◌≢◌, ℕ, ◌<◌, ◌==◌, if◌then◌else◌}
 use Rattle.usac_cfg.specs.declared.usac_config.UsacConfig.{UsacConfig}
 
 -- The frequency index is not reserved and no escape, and there is no SBR.

@@ -1,8 +1,8 @@
 -- An element of the built form is read exactly, and so is the frame whose element some bytes are.
-use Rattle.std.proofs.Common.{◌≡◌, ℕ, zero, suc, ◌+◌, ◌*◌, ◌/◌, ◌%◌, ◌^◌, ◌<◌, ◌≤◌, Bool, true, false, not, eqb, List, [], ◌∷◌, ◌++◌, length, get_or, replicate, Option, Some, None, Result, Ok, Err, refl, sym, ap, ◌∙◌, arith, inl, inr}
+use Rattle.std.proofs.Common.{◌≡◌, ℕ, zero, suc, ◌+◌, ◌*◌, ◌/◌, ◌%◌, ◌^◌, ◌<◌, ◌≤◌, Bool, true, false, not, eqb, List, [], ◌∷◌, ◌++◌, length, get_or, replicate, Result, Ok, Err, refl, sym, ap, ◌∙◌, arith, inl, inr}
 use Rattle.std.specs.Prelude.{◌⊎◌}
 use Rattle.std.proofs.lemmas.Bool.{cases_lt}
-use Rattle.std.proofs.lemmas.List.{length-append, append_cancel_left, append-nil, replicate_more, length-replicate}
+use Rattle.std.proofs.lemmas.List.{length-append, append-nil, replicate_more, length-replicate}
 use Rattle.std.proofs.lemmas.Nat.{pow_pos}
 use Rattle.layout.specs.Text.{num, is_odd, bits_of, value_after}
 use Rattle.layout.specs.Reader.{Reader, left, moved}
@@ -18,7 +18,6 @@ use Rattle.esc_value.specs.SlotLength.{slot_text}
 use Rattle.esc_value.proofs.SlotExact.{slot_exact}
 use Rattle.usac_cfg.specs.UsacExact.{usac_config_exact}
 use Rattle.xheaac_tool.specs.declared.frame.Frame.{Frame}
-use Rattle.xheaac_tool.specs.declared.frame.Opening.{Opening}
 use Rattle.xheaac_tool.specs.declared.frame.ElementFault.{ElementFault}
 use Rattle.xheaac_tool.specs.Faults.{not_built, from_short, from_read, from_config, is_memory}
 use Rattle.xheaac_tool.specs.Element.{number, fixed, behind, before, mux_head, mux_tail, object_type, asc_fields, stream_mux, length_refused, slot_of_bytes, same_mux, element}

@@ -1,6 +1,5 @@
 -- What the play of a source did is what the bytes of the file say.
-use Rattle.std.proofs.Common.{◌≡◌, ℕ, zero, suc, ◌+◌, ◌-◌, ◌<◌, ◌≤◌, Bool, true, false, eqb, ltb, List, [], ◌∷◌, ◌++◌, length, take, drop, Option, Some, None, Result, Ok, ℤ, refl, sym, ap, subst, ◌∙◌, append_assoc, arith, inl, inr}
-use Rattle.std.specs.Prelude.{◌⊎◌}
+use Rattle.std.proofs.Common.{◌≡◌, ℕ, ◌+◌, ◌-◌, ◌<◌, ◌≤◌, Bool, false, eqb, ltb, List, [], ◌∷◌, ◌++◌, length, take, drop, Option, Some, None, Ok, refl, sym, ap, subst, ◌∙◌, append_assoc, arith, inl, inr}
 use Rattle.std.specs.declared.alloc.AllocError.{AllocError}
 use Rattle.std.proofs.lemmas.Bool.{cases_lt, lt-ltb, le-ltb, ne_eqb}
 use Rattle.outside.specs.Other.{all_but}
@@ -13,17 +12,14 @@ use Rattle.core_iface.specs.Samples.{sample_bytes, sample_bytes-append}
 use Rattle.xheaac_tool.specs.declared.frame.Frame.{Frame}
 use Rattle.xheaac_tool.specs.declared.outcome.Outcome.{Outcome}
 use Rattle.xheaac_tool.specs.declared.outcome.Outcome.TheVariants as is
-use Rattle.xheaac_tool.specs.Framing.{framed, IsFrameBody, IsPartial, BeginsWithFrame}
 use Rattle.xheaac_tool.specs.Reading.{Reading, most_bytes}
 use Rattle.xheaac_tool.specs.Taking.{Takes}
-use Rattle.xheaac_tool.specs.Carrying.{Carries, IsBuilt, IsLongest, HasNoFrame, in_force_behind}
+use Rattle.xheaac_tool.specs.Carrying.{Carries, IsBuilt, IsLongest, in_force_behind}
 use Rattle.xheaac_tool.specs.Stepping.{stepped_through, emitted_through}
 use Rattle.xheaac_tool.specs.Output.{output, config_of, usac_of, IsServed}
-use Rattle.xheaac_tool.specs.Handing.{WrotePart}
 use Rattle.xheaac_tool.specs.OneFrame.{IsFrameServed}
-use Rattle.xheaac_tool.specs.Texts.{not_built_text}
-use Rattle.xheaac_tool.specs.Played.{Traces, WroteAll, WroteFront, IsWhole, IsBroken, Ends, PlaysFile, remains_of}
-use Rattle.xheaac_tool.specs.Playing.{GoesOn, PlayedAll, PlayedFront, IsRefusal, HasFrame, Stops, PlaysSource}
+use Rattle.xheaac_tool.specs.Played.{Traces, WroteAll, WroteFront, IsBroken, Ends, PlaysFile, remains_of}
+use Rattle.xheaac_tool.specs.Playing.{GoesOn, PlayedAll, PlayedFront, IsRefusal, Stops, PlaysSource}
 use Rattle.xheaac_tool.proofs.Found.{partial-empty}
 use Rattle.xheaac_tool.proofs.Runs.{carries_more, carries_push, stuck_longest, partial_stuck, first_of_longest, exists_longest}
 use Rattle.xheaac_tool.proofs.Outputs.{output_is, emitted_append, later}
@@ -143,6 +139,37 @@ plays_file d ready text left t outcome p =
     let k = told text (p.whole ++ p.beyond) left p.from in
     record { taken = p.whole ++ p.beyond; from = p.from; within = p.within; ends = ends_by d ready text k.0 left t outcome p k.1 k.2 }
 
+-- Whether a source tells its bytes or not, the bytes that were taken of it account for all.
+pub taken_alone : (d : Definitions) (ready : Option Running) (before left : Option (List ℕ)) (t : Traces) (outcome : Outcome) → PlaysSource d ready before left t outcome
+    → (taken : List ℕ) × (before ≡ prepend_known taken left) × PlaysFile d taken (Some []) t outcome
+taken_alone d ready before left t outcome p =
+    let text = p.whole ++ p.beyond in
+    let alone : PlaysSource d ready (Some text) (Some []) t outcome = record {
+      frames = p.frames;
+      whole = p.whole;
+      beyond = p.beyond;
+      rest = p.rest;
+      from = ap (λ (x : List ℕ). Some x) (sym (append-nil text));
+      within = p.within;
+      counts = p.counts;
+      carried = p.carried;
+      stops = at_end outcome p.stops;
+    } in
+    (text, p.from, plays_file d ready text (Some []) t outcome alone)
+  where
+    refused : (o : Bool) (whole beyond rest : List ℕ) (left : Option (List ℕ)) → IsRefusal o whole beyond rest left → IsRefusal o whole beyond rest (Some [])
+    refused o whole beyond rest left (inl stuck) = inl stuck
+    refused o whole beyond rest left (inr (inl (none, part, some, end))) = inr (inl (none, part, some, refl))
+    refused o whole beyond rest left (inr (inr full)) = inr (inr full)
+
+    at_end : (o : Outcome) → Stops d ready p.frames p.whole p.beyond p.rest left t o → Stops d ready p.frames p.whole p.beyond p.rest (Some []) t o
+    at_end is.Done s = (s.0, s.1, refl, s.3)
+    at_end (is.Refused words) s = (refused (in_force_behind false p.frames) p.whole p.beyond p.rest left s.0, s.1, s.2)
+    at_end is.ReadFault s = s
+    at_end is.WriteFault s = s
+    at_end is.CoreFault s = s
+    at_end (is.Memory error) s = s
+
 -- A core that serves the configuration of the first frame serves every frame.
 pub frame_served : (d : Definitions) (old mid : Meaning) (text : List ℕ) (left1 left2 before w1 : Option (List ℕ)) (r1 r2 : Reading) (count n f1 f2 : ℕ) (body : List ℕ)
     → GoesOn d old mid (Some text) left1 before w1 r1 count → Takes most_bytes r1 r2 (record { left = left1; faults = f1 }) (record { left = left2; faults = f2 }) (Ok (Some n)) → r2.taken ≤ most_bytes → body ≡ take n (drop 3 r2.held)
@@ -207,3 +234,26 @@ left_of_others id n other left_old left_mid left_new id-is lt begun rest =
     let apart : eqb other id ≡ false = ne_eqb other id (λ e. omega arith) in
     let at : all_but id left_new other ≡ all_but id left_mid other = ap (λ (f : ℕ → Option (List ℕ)). f other) rest in
     (rw apart at at) ∙ begun
+
+-- the bytes that were taken of a file that was begun, or of one that was not
+pub taken_begun : (d : Definitions) (ready : Option Running) (a b id : ℕ) (file left_before : Option (List ℕ)) (left : ℕ → Option (List ℕ)) (t : Traces) (outcome : Outcome)
+    → left_before ≡ file → id ≡ a → b ≡ a + 1 → PlaysSource d ready left_before (left id) t outcome
+    → (taken : List ℕ) × (file ≡ prepend_known taken (remains_of a b (left a) file)) × PlaysFile d taken (Some []) t outcome
+taken_begun d ready a b id file left_before left t outcome here id-is more p =
+    let k = taken_alone d ready left_before (left id) t outcome p in
+    (k.0, sym here ∙ k.1 ∙ ap (prepend_known k.0) (ap left id-is ∙ sym (remains_left a b (left a) file more)), k.2)
+
+taken_none : (a b : ℕ) (left file : Option (List ℕ)) → b ≡ a → file ≡ prepend_known [] (remains_of a b left file)
+taken_none a b left file e = sym (remains_file a b left file e) ∙ prepend-none (remains_of a b left file)
+
+pub taken_not : (d : Definitions) (a b : ℕ) (left file written : Option (List ℕ)) (fed : ℕ) → b ≡ a
+    → (taken : List ℕ) × (file ≡ prepend_known taken (remains_of a b left file)) × PlaysFile d taken (Some []) (untouched written fed) is.ReadFault
+taken_not d a b left file written fed e =
+    let p = not_begun d [] a b left written fed e in
+    ([], taken_none a b left file e, subst (λ (x : Option (List ℕ)). PlaysFile d [] x (untouched written fed) is.ReadFault) (remains_file a b left (Some []) e) p)
+
+pub taken_not_memory : (d : Definitions) (a b : ℕ) (left file written : Option (List ℕ)) (fed : ℕ) (error : AllocError) → b ≡ a
+    → (taken : List ℕ) × (file ≡ prepend_known taken (remains_of a b left file)) × PlaysFile d taken (Some []) (untouched written fed) (is.Memory error)
+taken_not_memory d a b left file written fed error e =
+    let p = not_begun_memory d [] a b left written fed error e in
+    ([], taken_none a b left file e, subst (λ (x : Option (List ℕ)). PlaysFile d [] x (untouched written fed) (is.Memory error)) (remains_file a b left (Some []) e) p)

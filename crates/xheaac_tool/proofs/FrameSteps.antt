@@ -1,5 +1,5 @@
 -- A frame that was not played, since it is not of the built form.
-use Rattle.std.proofs.Common.{◌≡◌, ℕ, ◌+◌, ◌≤◌, Bool, false, List, Option, Result, Ok, Err, refl, arith, inl, inr}
+use Rattle.std.proofs.Common.{◌≡◌, ℕ, Bool, false, List, Option, Err, refl, arith, inr}
 use Rattle.core_iface.specs.Decoding.{Definitions}
 use Rattle.core_iface.specs.Answering.{Meaning}
 use Rattle.xheaac_tool.specs.declared.frame.Frame.{Frame}

@@ -1,10 +1,9 @@
 -- The play of a source, from frame to frame and to its end.
-use Rattle.std.proofs.Common.{◌≡◌, ℕ, zero, suc, ◌+◌, ◌-◌, ◌*◌, ◌<◌, ◌≤◌, Bool, true, false, ltb, List, [], ◌∷◌, ◌++◌, length, take, drop, Option, Some, None, Result, Ok, Err, ℤ, refl, sym, ap, subst, ◌∙◌, append_assoc, arith, inl, inr}
-use Rattle.std.specs.Prelude.{◌⊎◌, IsSome}
+use Rattle.std.proofs.Common.{◌≡◌, ℕ, suc, ◌+◌, ◌-◌, ◌*◌, ◌<◌, ◌≤◌, Bool, false, ltb, List, [], ◌∷◌, ◌++◌, length, take, drop, Option, Some, None, Ok, Err, refl, sym, ap, subst, ◌∙◌, append_assoc, arith, inl, inr}
 use Rattle.std.proofs.lemmas.Bool.{lt-ltb}
 use Rattle.std.proofs.lemmas.List.{length-append, append-nil, length-drop, take_all}
 use Rattle.std.proofs.Math.Seq.{take-append-add}
-use Rattle.std.specs.Io.KnownBytes.{prepend_known, append_known, IsAtEnd}
+use Rattle.std.specs.Io.KnownBytes.{prepend_known, append_known}
 use Rattle.core_iface.specs.Decoding.{Definitions}
 use Rattle.core_iface.specs.Answering.{Running, Meaning}
 use Rattle.core_iface.specs.Samples.{sample_bytes, sample_bytes-append}
@@ -15,16 +14,16 @@ use Rattle.xheaac_tool.specs.declared.stream_end.StreamEnd.{StreamEnd}
 use Rattle.xheaac_tool.specs.declared.stream_end.StreamEnd.TheVariants as streams
 use Rattle.xheaac_tool.specs.declared.outcome.Outcome.{Outcome}
 use Rattle.xheaac_tool.specs.declared.outcome.Outcome.TheVariants as is
-use Rattle.xheaac_tool.specs.Framing.{framed, IsFrameBody, IsPartial, IsLost, BeginsWithFrame}
+use Rattle.xheaac_tool.specs.Framing.{framed, IsFrameBody, IsLost, BeginsWithFrame}
 use Rattle.xheaac_tool.specs.Reading.{Reading, grown, most_bytes}
-use Rattle.xheaac_tool.specs.Taking.{Seen, Takes}
-use Rattle.xheaac_tool.specs.Carrying.{Carries, IsBuilt, HasNoFrame, in_force_behind}
+use Rattle.xheaac_tool.specs.Taking.{Takes}
+use Rattle.xheaac_tool.specs.Carrying.{Carries, IsBuilt, in_force_behind}
 use Rattle.xheaac_tool.specs.Stepping.{stepped_by, emitted_by, stepped_through, emitted_through}
 use Rattle.xheaac_tool.specs.Handing.{WrotePart}
 use Rattle.xheaac_tool.specs.OneFrame.{Plays, Played, PlayedPart, PlayedNone}
 use Rattle.xheaac_tool.specs.Texts.{not_built_text}
 use Rattle.xheaac_tool.specs.Played.{Traces}
-use Rattle.xheaac_tool.specs.Playing.{GoesOn, PlayedAll, PlayedFront, IsRefusal, HasFrame, Stops, PlaysSource, IsRefusedAt, Becomes, BecomesOf}
+use Rattle.xheaac_tool.specs.Playing.{GoesOn, PlayedAll, PlayedFront, IsRefusal, Stops, PlaysSource, IsRefusedAt, Becomes, BecomesOf}
 use Rattle.xheaac_tool.proofs.Found.{begins-fits, partial-empty}
 use Rattle.xheaac_tool.proofs.Handing.{append-append}
 use Rattle.xheaac_tool.proofs.Pieces.{prepend-prepend}

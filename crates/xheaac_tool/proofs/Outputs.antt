@@ -1,16 +1,15 @@
 -- Frames that are given to a core one after another give their output.
-use Rattle.std.proofs.Common.{◌≡◌, ℕ, Bool, true, false, List, [], ◌∷◌, ◌++◌, Option, Some, None, ℤ, refl, sym, ap, ◌∙◌, append_assoc}
+use Rattle.std.proofs.Common.{◌≡◌, ℕ, true, false, List, [], ◌∷◌, ◌++◌, Option, Some, None, ℤ, refl, sym, ap, ◌∙◌, append_assoc}
 use Rattle.std.proofs.lemmas.List.{append-nil}
-use Rattle.std.specs.Prelude.{map, is_some}
-use Rattle.usac_cfg.specs.declared.usac_config.UsacConfig.{UsacConfig}
-use Rattle.core_iface.specs.Decoding.{Definitions, out, samples_of}
-use Rattle.core_iface.specs.Answering.{Running, running, stepped, emitted, stepped_over, emitted_over, emitted_over-running}
-use Rattle.core_iface.specs.Samples.{sample_bytes, sample_bytes-append}
+use Rattle.std.specs.Prelude.{is_some}
+use Rattle.core_iface.specs.Decoding.{Definitions}
+use Rattle.core_iface.specs.Answering.{Running, running, stepped, emitted, emitted_over, emitted_over-running}
+use Rattle.core_iface.specs.Samples.{sample_bytes}
 use Rattle.xheaac_tool.specs.declared.frame.Frame.{Frame}
 use Rattle.xheaac_tool.specs.declared.frame.Opening.{Opening}
 use Rattle.xheaac_tool.specs.Carrying.{Carries, IsBuilt}
-use Rattle.xheaac_tool.specs.Output.{unit_of, units_of, usac_of, config_of, decoded, output}
-use Rattle.xheaac_tool.specs.Stepping.{set_up, stepped_by, emitted_by, stepped_through, emitted_through}
+use Rattle.xheaac_tool.specs.Output.{unit_of, units_of, config_of, decoded, output}
+use Rattle.xheaac_tool.specs.Stepping.{stepped_by, emitted_by, stepped_through, emitted_through}
 
 -- one more frame
 pub emitted_push : (d : Definitions) (ready : Option Running) (frames : List Frame) (frame : Frame) → emitted_through d ready (frames ++ frame ∷ []) ≡ emitted_through d ready frames ++ emitted_by d (stepped_through d ready frames) frame

@@ -1,14 +1,13 @@
 -- What the top call answers, from how the command ended.
-use Rattle.std.proofs.Common.{◌≡◌, ℕ, ◌+◌, ◌<◌, ◌≤◌, List, [], ◌∷◌, ◌++◌, length, take, Some, None, Option, Bool, true, false, refl, sym, ap, ◌∙◌, subst, arith, inl, inr}
-use Rattle.std.specs.Prelude.{◌≢◌, ◌⊎◌, codes, if◌then◌else◌}
+use Rattle.std.proofs.Common.{◌≡◌, ℕ, ◌<◌, List, [], ◌∷◌, ◌++◌, length, take, Some, None, Option, Bool, true, false, refl, sym, ap, ◌∙◌, subst, arith, inl, inr}
+use Rattle.std.specs.Prelude.{◌≢◌, codes, if◌then◌else◌}
 use Rattle.std.specs.Str.{bytes_eq}
 use Rattle.std.specs.Io.KnownBytes.{append_known}
-use Rattle.std.proofs.lemmas.List.{append-nil, take_all}
+use Rattle.std.proofs.lemmas.List.{take_all}
 use Rattle.core_iface.specs.Decoding.{Definitions}
 use Rattle.core_iface.specs.Samples.{sample_bytes}
 use Rattle.xheaac_tool.specs.Carrying.{Carries, IsLongest}
 use Rattle.xheaac_tool.specs.Causes.{Counts, Caused}
-use Rattle.xheaac_tool.specs.Handing.{WrotePart}
 use Rattle.xheaac_tool.specs.Output.{output}
 use Rattle.xheaac_tool.specs.Played.{Traces, PlaysFile, Ends, WroteAll, WroteFront}
 use Rattle.xheaac_tool.specs.Ran.{Notes, Noted, Reports, NotedFront, NotesOf, CausesOf, RunsPlay, status_of, text_of}

@@ -1,10 +1,9 @@
 -- Lists of frames that texts carry.
-use Rattle.std.proofs.Common.{◌≡◌, ℕ, zero, suc, ◌+◌, ◌-◌, ◌<◌, ◌≤◌, Bool, true, false, List, [], ◌∷◌, ◌++◌, length, replicate, take, drop, refl, sym, ap, subst, ◌∙◌, append_assoc, arith, inl, inr}
+use Rattle.std.proofs.Common.{◌≡◌, ℕ, zero, suc, ◌+◌, ◌<◌, ◌≤◌, Bool, true, false, List, [], ◌∷◌, ◌++◌, length, take, drop, refl, sym, ap, subst, ◌∙◌, append_assoc, arith, inl, inr}
 use Rattle.std.specs.Prelude.{◌⊎◌}
 use Rattle.std.proofs.lemmas.List.{length-append, append-nil, length-drop}
-use Rattle.std.proofs.lemmas.Bool.{cases_lt}
 use Rattle.xheaac_tool.specs.declared.frame.Frame.{Frame}
-use Rattle.xheaac_tool.specs.Framing.{framed, IsFrameBody, IsPartial, IsLost, BeginsWithFrame}
+use Rattle.xheaac_tool.specs.Framing.{framed, IsFrameBody, IsPartial, IsLost}
 use Rattle.xheaac_tool.specs.Carrying.{IsBuilt, Carries, IsLongest, in_force_behind, HasNoFrame}
 use Rattle.xheaac_tool.proofs.Frames.{same_frame}
 use Rattle.xheaac_tool.proofs.Found.{partial-no_frame, each_text, begins-fits, partial-empty}

@@ -1,5 +1,5 @@
 -- The file of the words of `play FILE`.
-use Rattle.std.proofs.Common.{◌≡◌, ℕ, List, [], ◌∷◌, get_or, Some, None, refl, ap}
+use Rattle.std.proofs.Common.{◌≡◌, List, [], ◌∷◌, get_or, ap}
 use Rattle.std.specs.Prelude.{String, string_bytes}
 use Rattle.std.specs.Global.{Global}
 use Rattle.xheaac_tool.specs.Words.{texts, file_of, IsPlay}

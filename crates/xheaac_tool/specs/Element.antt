@@ -1,6 +1,6 @@
 -- How an AudioMuxElement of the built form is spelled, field by field (ISO/IEC 14496-3, AudioMuxElement, StreamMuxConfig
 -- and AudioSpecificConfig of object type 42).
-use Rattle.std.specs.Prelude.{◌≡◌, ℕ, Bool, true, false, not, List, length, Option, Some, None, ◌==◌, if◌then◌else◌}
+use Rattle.std.specs.Prelude.{ℕ, Bool, true, false, not, List, length, Option, Some, None, ◌==◌, if◌then◌else◌}
 use Rattle.layout.specs.Layout.{Layout, both, shaped, wrapped, checked, constant, where_set}
 use Rattle.bit_core.specs.Plain.{bits, octets}
 use Rattle.esc_value.specs.SlotLength.{slot}

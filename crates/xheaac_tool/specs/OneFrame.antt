@@ -1,5 +1,5 @@
 -- What the play of one frame does.
-use Rattle.std.specs.Prelude.{◌≡◌, ℕ, ◌+◌, ◌≤◌, ◌⊎◌, Bool, false, List, ◌++◌, IsSome, Option, Some, None, Result, Ok, Err, ℤ}
+use Rattle.std.specs.Prelude.{◌≡◌, ℕ, ◌+◌, ◌≤◌, ◌⊎◌, Bool, List, ◌++◌, IsSome, Option, Some, None, Result, Ok, Err, ℤ}
 use Rattle.std.specs.Io.KnownBytes.{append_known}
 use Rattle.causes.specs.Counts.{Rose}
 use Rattle.usac_cfg.specs.UsacConfig.{IsWellFormed}

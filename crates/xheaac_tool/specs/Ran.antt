@@ -10,7 +10,7 @@ use Rattle.xheaac_tool.specs.Framing.{IsPartial}
 use Rattle.xheaac_tool.specs.Handing.{WrotePart}
 use Rattle.xheaac_tool.specs.Played.{Traces, IsWhole, IsBroken, WroteAll, WroteFront}
 use Rattle.xheaac_tool.specs.Reading.{most_bytes}
-use Rattle.xheaac_tool.specs.Texts.{not_built_text, usage_text, read_text, write_text, core_text, memory_text}
+use Rattle.xheaac_tool.specs.Texts.{not_built_text, read_text, write_text, core_text, memory_text}
 use Rattle.xheaac_tool.specs.declared.frame.Frame.{Frame}
 use Rattle.xheaac_tool.specs.declared.outcome.Outcome.{Outcome}
 use Rattle.xheaac_tool.specs.declared.outcome.Outcome.TheVariants as is

@@ -1,5 +1,6 @@
 // The command `play`.
-ghost use Rattle.std.specs.Prelude.{◌≡◌, ◌≢◌, ◌≤◌, ◌+◌, ◌^◌, IsSome, IsNone, IsTrue, Some, List, ℕ, ◌<◌};
+ghost use Rattle.std.specs.Prelude.{◌≡◌, ◌≢◌, ◌≤◌, ◌+◌, ◌^◌, IsSome, IsNone, IsTrue, Some, List, [], ℕ, ◌<◌};
+ghost use Rattle.std.specs.Io.KnownBytes.{prepend_known};
 ghost use Rattle.outside.specs.Other.{all_but};
 ghost use Rattle.xheaac_tool.specs.Causes.{Caused};
 ghost use Rattle.xheaac_tool.specs.Played.{PlaysFile, IsTextServed, remains_of};
@@ -145,6 +146,17 @@ pub fn do_play<H: Shelf, K: Sink, C: Core>(
     // Where the shelf tells the bytes of the file, they say what was written, how many units were fed, and the outcome.
     ensures plays { (text : List ℕ) → H.bytes shelf.old (file_of (texts words.now)) ≡ Some text →
         PlaysFile C.does text (remains_of (H.begun shelf.old) (H.begun shelf.new) (H.left shelf.new (H.begun shelf.old)) (Some text))
+        (record {
+          written_before = K.written out.old;
+          written_after = K.written out.new;
+          fed_before = (C.meaning core.old).fed;
+          fed_after = (C.meaning core.new).fed;
+        }) result }
+
+    // Whether it tells them or not, there are bytes that were taken of the file, and they account for all.
+    ensures taken { (taken : List ℕ)
+        × (H.bytes shelf.old (file_of (texts words.now)) ≡ prepend_known taken (remains_of (H.begun shelf.old) (H.begun shelf.new) (H.left shelf.new (H.begun shelf.old)) (H.bytes shelf.old (file_of (texts words.now)))))
+        × PlaysFile C.does taken (Some [])
         (record {
           written_before = K.written out.old;
           written_after = K.written out.new;

@@ -1,5 +1,6 @@
 // The top call.
-ghost use Rattle.std.specs.Prelude.{◌≡◌, ◌≢◌, ◌<◌, ◌≤◌, ◌+◌, ◌^◌, ◌⊎◌, ℕ, List, None, Some, IsNone, IsTrue};
+ghost use Rattle.std.specs.Prelude.{◌≡◌, ◌≢◌, ◌<◌, ◌≤◌, ◌+◌, ◌^◌, ◌⊎◌, ℕ, List, [], None, Some, IsNone, IsTrue};
+ghost use Rattle.std.specs.Io.KnownBytes.{prepend_known};
 ghost use Rattle.xheaac_tool.specs.Words.{texts, case_of, Play};
 ghost use Rattle.xheaac_tool.specs.Texts.{usage_text};
 ghost use Rattle.xheaac_tool.specs.Ran.{Reports, NotesOf, CausesOf, RunsPlay, status_of, text_of};
@@ -94,6 +95,18 @@ pub fn run<H: Shelf, K: Sink, N: Sink, C: Core>(
     // `play FILE`, where the shelf tells the bytes of the file: they say what was written, and what each status means.
     ensures play { (file text : List ℕ) → case_of (texts words.now) ≡ Some (Play file) → H.bytes shelf.old file ≡ Some text →
         RunsPlay C.does text (remains_of (H.begun shelf.old) (H.begun shelf.new) (H.left shelf.new (H.begun shelf.old)) (Some text))
+        (record {
+          written_before = K.written out.old;
+          written_after = K.written out.new;
+          fed_before = (C.meaning core.old).fed;
+          fed_after = (C.meaning core.new).fed;
+        })
+        (record { before = N.written note.old; after = N.written note.new; faults_before = N.faults note.old; faults_after = N.faults note.new }) result }
+
+    // Whether it tells them or not, there are bytes that were taken of the file, and they account for all.
+    ensures taken { (file : List ℕ) → case_of (texts words.now) ≡ Some (Play file) → (taken : List ℕ)
+        × (H.bytes shelf.old file ≡ prepend_known taken (remains_of (H.begun shelf.old) (H.begun shelf.new) (H.left shelf.new (H.begun shelf.old)) (H.bytes shelf.old file)))
+        × RunsPlay C.does taken (Some [])
         (record {
           written_before = K.written out.old;
           written_after = K.written out.new;

@@ -1,8 +1,4 @@
-use Rattle.std.proofs.Common.{◌≡◌, ◌+◌, sym, ap, ◌∙◌, Ok, Err, ℕ}
-use Rattle.layout.specs.Reading.{Gives}
-use Rattle.bit_core.specs.Plain.{short_at}
-use Rattle.esc_value.specs.SlotLength.{slot}
-use Rattle.esc_value.proofs.SlotSteps.{SoFar, goes_on, ends, stops}
+use Rattle.esc_value.proofs.SlotSteps.{goes_on, ends, stops}
 use Rattle.esc_value.proofs.slot_length.added_up.Goals as goal
 
 pub bytes-preserved : goal.bytes-preserved

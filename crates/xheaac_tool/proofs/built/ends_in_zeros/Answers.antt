@@ -1,4 +1,4 @@
-use Rattle.std.proofs.Common.{◌≡◌, ◌<◌, ◌≤◌, ap, length, arith, eq-eqb, refl}
+use Rattle.std.proofs.Common.{arith, eq-eqb, refl}
 use Rattle.std.proofs.lemmas.Bool.{eqb-true}
 use Rattle.layout.specs.Reader.{left}
 use Rattle.xheaac_tool.proofs.BuiltFrames.{zeros_left, left_zeros, zeros_few}

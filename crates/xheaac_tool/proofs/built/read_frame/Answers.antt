@@ -1,4 +1,4 @@
-use Rattle.std.proofs.Common.{Ok, Err, refl}
+use Rattle.std.proofs.Common.{refl}
 use Rattle.std.proofs.lemmas.Result.{err_from_is_err_and}
 use Rattle.xheaac_tool.proofs.BuiltFrames.{is_built, none_read, none_zeros, none_first}
 use Rattle.xheaac_tool.proofs.built.read_frame.Goals as goal

@@ -1,7 +1,7 @@
 use Rattle.std.proofs.Common.{◌≡◌, ap, ◌∙◌}
 use Rattle.xheaac_tool.specs.Words.{texts, file_of}
 use Rattle.xheaac_tool.proofs.WordLemmas.{file_is}
-use Rattle.xheaac_tool.proofs.Endings.{plays_begun, not_begun, not_begun_memory, left_of_others}
+use Rattle.xheaac_tool.proofs.Endings.{plays_begun, not_begun, not_begun_memory, left_of_others, taken_begun, taken_not, taken_not_memory}
 use Rattle.xheaac_tool.proofs.play.do_play.Goals as goal
 
 pub returns-in-Err-Failed-clause-plays : goal.returns-in-Err-Failed-clause-plays
@@ -26,3 +26,16 @@ returns-clause-calm_decodes g c = λ text here served calm.
     let name : c.as_str.result.now ≡ file_of (texts c.args.words.now) = c.as_str.ensures.value ∙ file_is c.args.words.now c.index-words-1.result c.requires.words c.index-words-1.is in
     let begun = ap (g.H.Shelf.left c.begin.new.self) c.in-Ok.ensures.number ∙ c.in-Ok.ensures.start ∙ ap (g.H.Shelf.bytes c.args.shelf.now) name ∙ here in
     c.play_begun.ensures.calm_decodes text begun served calm
+
+pub returns-in-Err-Failed-clause-taken : goal.returns-in-Err-Failed-clause-taken
+returns-in-Err-Failed-clause-taken g c = taken_not g.C.Core.does _ _ _ _ _ _ c.in-Err-Failed.ensures.refused
+
+pub returns-in-Err-Memory-clause-taken : goal.returns-in-Err-Memory-clause-taken
+returns-in-Err-Memory-clause-taken g c = taken_not_memory g.C.Core.does _ _ _ _ _ _ _ c.in-Err-Memory.ensures.refused
+
+pub returns-clause-taken : goal.returns-clause-taken
+returns-clause-taken g c =
+    let name : c.as_str.result.now ≡ file_of (texts c.args.words.now) = c.as_str.ensures.value ∙ file_is c.args.words.now c.index-words-1.result c.requires.words c.index-words-1.is in
+    let id-is = c.in-Ok.ensures.number in
+    let begun = ap (g.H.Shelf.left c.begin.new.self) id-is ∙ c.in-Ok.ensures.start ∙ ap (g.H.Shelf.bytes c.args.shelf.now) name in
+    taken_begun g.C.Core.does _ _ _ _ _ _ (g.H.Shelf.left c.play_begun.new.shelf) _ _ begun id-is (c.play_begun.ensures.begun ∙ c.in-Ok.ensures.begun) c.play_begun.ensures.plays

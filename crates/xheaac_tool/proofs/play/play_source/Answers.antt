@@ -1,4 +1,4 @@
-use Rattle.std.proofs.Common.{◌≡◌, ◌≤◌, arith, rules, refl, ◌∙◌, ap, subst}
+use Rattle.std.proofs.Common.{arith, rules, refl, ◌∙◌, ap, subst}
 use Rattle.layout.proofs.Layouts.{failed}
 use Rattle.xheaac_tool.specs.declared.one_frame.FrameEnd.{FrameEnd}
 use Rattle.xheaac_tool.specs.Playing.{GoesOn}
