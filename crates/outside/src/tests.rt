@@ -103,11 +103,9 @@ fn sink_writes_in_pieces(rt: HostRuntime) -> Result<(), Fail> {
 }
 
 #[test]
-fn files_are_read_and_written(rt: HostRuntime) -> Result<(), Fail> {
-    let path = "outside_test_file";
-    let mut sink = StdSink::new(fs::create(&rt, path)?);
-    assert_eq!(rt; sink.write(b"abc")?, 3);
-    assert_eq!(rt; sink.faults(), 0);
+fn a_file_is_read(rt: HostRuntime) -> Result<(), Fail> {
+    let path = "outside_test_read";
+    fs::write(&rt, path, b"abc")?;
     let mut shelf = FileShelf::new(&rt, rt.alloc());
     assert!(rt; shelf.begin(rt.alloc(), "outside_test_no_file").is_err());
     let id = shelf.begin(rt.alloc(), path)?;
@@ -116,6 +114,17 @@ fn files_are_read_and_written(rt: HostRuntime) -> Result<(), Fail> {
     assert_eq!(rt; shelf.read(id, &mut into)?, 3);
     assert_eq!(rt; &into[..3], b"abc".as_slice());
     assert_eq!(rt; shelf.read(id, &mut into)?, 0);
+    fs::remove_file(&rt, path)?;
+    Ok(())
+}
+
+#[test]
+fn a_file_is_written(rt: HostRuntime) -> Result<(), Fail> {
+    let path = "outside_test_written";
+    let mut sink = StdSink::new(fs::create(&rt, path)?);
+    assert_eq!(rt; sink.write(b"abc")?, 3);
+    assert_eq!(rt; sink.faults(), 0);
+    assert_eq!(rt; fs::read(&rt, path)?.as_slice(), b"abc".as_slice());
     fs::remove_file(&rt, path)?;
     Ok(())
 }
