@@ -171,14 +171,16 @@ fn a_write_fails(rt: HostRuntime) -> Result<(), Fail> {
         };
         check(&rt, 5000, case, &mut FoldCore::new())?;
     }
-    // one write a byte
-    for written in 0..4096usize {
-        let failing_writes = [written as u64 + 1];
-        let case = Case {
-            failing_writes: &failing_writes,
-            ..ended(4, written, if written < 2048 { 1 } else { 2 })
-        };
-        check(&rt, 1, case, &mut FoldCore::new())?;
+    // one write a byte: at the ends of each run of 64 bytes
+    for block in 0..64usize {
+        for written in [64 * block, 64 * block + 63] {
+            let failing_writes = [written as u64 + 1];
+            let case = Case {
+                failing_writes: &failing_writes,
+                ..ended(4, written, if written < 2048 { 1 } else { 2 })
+            };
+            check(&rt, 1, case, &mut FoldCore::new())?;
+        }
     }
     Ok(())
 }
@@ -239,20 +241,29 @@ fn no_such_file(rt: HostRuntime) -> Result<(), Fail> {
     check(&rt, 5000, case, &mut FoldCore::new())
 }
 
-// The same command without its note.
-#[test]
-fn plays_without_note(rt: HostRuntime) -> Result<(), Fail> {
+// The same command without its note, where the devices take and give pieces of a size.
+fn check_without_note(rt: &(impl Abort + AllocGlobal), piece: usize) -> Result<(), Fail>
+    requires { 1 ≤ piece }
+{
     let alloc = rt.alloc();
-    let mut shelf = MemShelf::new(alloc, 5000, &[])?;
+    let mut shelf = MemShelf::new(alloc, piece, &[])?;
     shelf.add("in", PLAIN)?;
-    let mut out = MemSink::new(alloc, 5000, &[])?;
+    let mut out = MemSink::new(alloc, piece, &[])?;
     let mut words = Vec::new(alloc);
     words.push(String::from_str(alloc, "play")?)?;
     words.push(String::from_str(alloc, "in")?)?;
-    let outcome = do_play(alloc, &words, &mut shelf, &mut out, &mut FoldCore::new());
+    let mut core = FoldCore::new();
+    let outcome = do_play(alloc, &words, &mut shelf, &mut out, &mut core);
     assert!(rt; matches!(outcome, Outcome::Done));
     assert_eq!(rt; out.bytes(), samples(alloc)?.as_slice());
+    assert_eq!(rt; core.fed(), 2);
     Ok(())
+}
+
+#[test]
+fn plays_without_note(rt: HostRuntime) -> Result<(), Fail> {
+    check_without_note(&rt, 5000)?;
+    check_without_note(&rt, 1)
 }
 
 #[test]
