@@ -268,16 +268,29 @@ fn plays_without_note(rt: HostRuntime) -> Result<(), Fail> {
 
 #[test]
 fn answers_the_usage(rt: HostRuntime) -> Result<(), Fail> {
-    let no_words: [&[&str]; 4] = [&["play"], &["play", "a", "b"], &[], &["--help"]];
-    for words in no_words {
-        let case = Case {
-            words,
-            status: 2,
-            written: 0,
-            note: USAGE,
-            fed: 0,
-            ..WHOLE
-        };
+    let usage = Case {
+        note: USAGE,
+        ..ended(2, 0, 0)
+    };
+    let cases = [
+        Case {
+            words: &["play"],
+            ..usage
+        },
+        Case {
+            words: &["play", "a", "b"],
+            ..usage
+        },
+        Case {
+            words: &[],
+            ..usage
+        },
+        Case {
+            words: &["--help"],
+            ..usage
+        },
+    ];
+    for case in cases {
         check(&rt, 5000, case, &mut FoldCore::new())?;
     }
     Ok(())
