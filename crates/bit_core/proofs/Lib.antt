@@ -1,3 +1,4 @@
 pub mod Trims
 pub mod SliceLemmas
 pub mod PlainFacts
+pub mod Writing

@@ -68,6 +68,13 @@ impl Bits {
         self.items.get(i as usize).copied()
     }
 
+    /// The bits as a slice.
+    pub(crate) fn as_slice(&self) -> &[bool]
+        ensures { result.now ≡ self.now }
+    {
+        self.items.as_slice()
+    }
+
     /// Adds a bit at the end. The one error is want of memory, and leaves the list as it was.
     pub fn push(&mut self, bit: bool) -> Result<(), AllocError>
         ensures ok { OnOk result (self.new ≡ self.old ++ bit ∷ []) }

@@ -1,8 +1,10 @@
-//! Bits, most significant first: lists of bytes and of bits, and a reader that takes fields off a slice of bytes.
+//! Bits, most significant first: lists of bytes and of bits, a reader that takes fields off a slice of bytes, and a
+//! writer that puts them together again.
 //!
 //! A read takes exactly the next bits, or answers that bits are missing, with the first bit of the field, and leaves the
-//! reader where it was. Contracts see a reader as a text of bits and a place in it, and a list as its entries; how bits
-//! are kept is private to this crate.
+//! reader where it was. A writer holds exactly the bits that were put into it, also after a call that is refused, and its
+//! bytes are these bits and the fewest zeros that fill the last byte. Contracts see a reader as a text of bits and a place
+//! in it, and a list or a writer as its entries; how bits are kept is private to this crate.
 #![tactic(auto)]
 
 mod bits;
@@ -13,9 +15,11 @@ mod reader;
 mod slices;
 #[cfg(test)]
 mod tests;
+mod writer;
 
 pub use bits::Bits;
 pub use faults::{ReadFault, Short};
 pub use fields::{flag, small};
 pub use octets::Octets;
 pub use reader::BitReader;
+pub use writer::BitWriter;

@@ -1,4 +1,4 @@
-use crate::{BitReader, Bits, Octets, ReadFault, Short, flag, small};
+use crate::{BitReader, BitWriter, Bits, Octets, ReadFault, Short, flag, small};
 use std::alloc::{AllocError, Global};
 use std::test::Fail;
 
@@ -76,5 +76,25 @@ fn octets_are_listed(rt: HostRuntime) -> Result<(), Fail> {
         assert_eq!(rt; octets.len(), 2);
         assert_eq!(rt; (octets.get(1), octets.get(2)), (Some(&2), None));
     }
+    Ok(())
+}
+
+#[test]
+fn writer_puts_fields_together(rt: HostRuntime) -> Result<(), Fail> {
+    let alloc = rt.alloc();
+    let empty = BitWriter::new(alloc).finish()?;
+    assert_eq!(rt; empty.len(), 0);
+    let mut writer = BitWriter::new(alloc);
+    for (value, n, len) in [(5, 3, 3), (0, 0, 3), (0x5F, 8, 11)] {
+        writer.put(value, n)?;
+        assert_eq!(rt; writer.len(), len, "after {value} of {n} bits");
+    }
+    writer.put_bits(&bits_of(alloc, &[true, false, true])?)?;
+    writer.put_bytes(&[0xA5])?;
+    assert_eq!(rt; writer.len(), 22);
+
+    // 101 0101 1111 101 1010 0101, and two zeros
+    let bytes = writer.finish()?;
+    assert_eq!(rt; bytes.as_slice(), [0xAB, 0xF6, 0x94].as_slice());
     Ok(())
 }

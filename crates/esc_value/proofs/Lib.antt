@@ -1,2 +1,4 @@
+pub mod EscapedWrites
 pub mod SlotExact
 pub mod SlotSteps
+pub mod SlotWrites

@@ -1,1 +1,6 @@
+pub mod Escaped
+pub mod EscapedExact
+pub mod LatmValue
+pub mod LatmExact
 pub mod SlotLength
+pub mod Writing

@@ -1,11 +1,22 @@
-//! Numbers of which large values take more bits: so far the length of a slot.
+//! Numbers of which large values take more bits: numbers that escape to a longer field, numbers that tell how many bytes
+//! they have, and the length of a slot.
 //!
 //! A read takes exactly the spelling of what it answers, and is short exactly where what is left is a proper prefix of
-//! spellings; then the reader stays where it was, and the place is the first bit of the whole number.
+//! spellings; then the reader stays where it was, and the place is the first bit of the whole number. A write puts
+//! exactly the spelling; where memory is short it may leave a front of it behind what the writer held.
 #![tactic(auto)]
 
+mod escaped;
+mod fault;
+mod format;
+mod latm_value;
+pub mod laws;
 mod slot_length;
 #[cfg(test)]
 mod tests;
 
-pub use slot_length::{SlotLength, one_spelling};
+pub use escaped::Escaped;
+pub use fault::EscFault;
+pub use latm_value::LatmValue;
+pub use laws::slot_length_has_one_spelling as one_spelling;
+pub use slot_length::SlotLength;

@@ -1,10 +1,11 @@
-ghost use Rattle.std.specs.Prelude.{◌≡◌, ◌+◌, ◌*◌, ◌≤◌, OnErr, IfOk};
+ghost use Rattle.std.specs.Prelude.{◌≡◌, ◌+◌, ◌*◌, ◌≤◌, ◌++◌, OnErr, OnOk, IfOk};
 ghost use Rattle.layout.specs.Reader.{left};
 ghost use Rattle.layout.specs.Reading.{Gives, Reads, IsOnwards};
-ghost use Rattle.layout.specs.Laws.{HasOneSpelling};
-ghost use Rattle.esc_value.specs.SlotLength.{slot};
+ghost use Rattle.esc_value.specs.SlotLength.{slot, slot_text};
+ghost use Rattle.esc_value.specs.Writing.{HoldsFront};
 
-use bit_core::{BitReader, Short, small};
+use bit_core::{BitReader, BitWriter, Short, small};
+use std::alloc::AllocError;
 
 /// The length of a slot in bytes (ISO/IEC 14496-3, MuxSlotLengthBytes): bytes that are added up until one of them is not
 /// 255.
@@ -29,6 +30,19 @@ impl SlotLength {
             }
         }
     }
+
+    /// Writes a length, in bytes.
+    ///
+    /// Errors: want of memory, and then a front of the spelling may be written.
+    pub fn write(length: u32, writer: &mut BitWriter) -> Result<(), AllocError>
+        ensures ok { OnOk result (writer.new ≡ writer.old ++ slot_text length) }
+        ensures err { OnErr result (HoldsFront (slot_text length) writer.old writer.new) }
+    {
+        for _ in 0..length / 255 {
+            writer.put(255, 8)?;
+        }
+        writer.put(length % 255, 8)
+    }
 }
 
 /// Adds up bytes until one of them is not 255. A refusal may stand behind some of them.
@@ -48,8 +62,3 @@ fn added_up(reader: &mut BitReader) -> Result<u32, Short>
         }
     }
 }
-
-/// No spelling of a length is a prefix of another's.
-pub fn one_spelling()
-    ensures { HasOneSpelling slot }
-{}

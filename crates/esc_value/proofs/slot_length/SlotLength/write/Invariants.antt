@@ -1,0 +1,5 @@
+use Rattle.esc_value.proofs.SlotWrites.{Written}
+use Rattle.esc_value.proofs.slot_length.SlotLength.write.Given as goal
+
+abbrev pub invariant-loop : goal.invariant-loop
+invariant-loop l = Written l.length l.counter l.initial.writer l.writer

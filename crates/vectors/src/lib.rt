@@ -1,0 +1,15 @@
+//! Worked rows as texts of hex digits, for tests: what a number or a stream is, and how it is spelled.
+#![tactic(auto)]
+
+mod bytes;
+mod numbers;
+mod streams;
+
+pub use bytes::bytes_of;
+pub use numbers::{
+    ESCAPED_2_4_0, ESCAPED_4_8_16, ESCAPED_8_16_0, LATM_VALUE_255, NumberRow, SLOT_LENGTHS,
+};
+pub use streams::PLAIN;
+
+#[cfg(test)]
+mod tests;
