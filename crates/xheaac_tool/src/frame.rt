@@ -3,6 +3,7 @@ ghost use Rattle.std.specs.Prelude.{◌≡◌};
 
 use bit_core::{Octets, ReadFault, Short};
 use std::alloc::AllocError;
+use thiserror::Error;
 use usac_cfg::{CfgFault, UsacConfig};
 
 /// What the first frame puts in force: the fields of AudioSpecificConfig that may vary.
@@ -25,9 +26,12 @@ pub struct Frame {
 }
 
 /// Why an element was not read.
-#[derive(Drop)]
+#[derive(Debug, Drop, Error)]
 pub enum ElementFault {
+    /// It is not of the built form, or ends too early.
+    #[error("form not built")]
     NotBuilt,
+    #[error("out of memory")]
     Memory(AllocError),
 }
 

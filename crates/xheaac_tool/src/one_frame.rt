@@ -16,13 +16,18 @@ use crate::unit::make_unit;
 use core_iface::{Core, CoreFault, Unit, push_sample_bytes};
 use outside::{DeviceFault, Sink};
 use std::alloc::{AllocError, Global};
+use thiserror::Error;
 
 /// Why a frame was not played.
-#[derive(Drop)]
+#[derive(Debug, Drop, Error)]
 pub enum FrameEnd {
+    #[error("form not built")]
     NotBuilt,
+    #[error("write fault")]
     WriteFault,
+    #[error("core fault")]
     CoreFault,
+    #[error("out of memory")]
     Memory(AllocError),
 }
 
