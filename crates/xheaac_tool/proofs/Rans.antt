@@ -8,10 +8,12 @@ use Rattle.core_iface.specs.Decoding.{Definitions}
 use Rattle.core_iface.specs.Samples.{sample_bytes}
 use Rattle.xheaac_tool.specs.Carrying.{Carries, IsLongest}
 use Rattle.xheaac_tool.specs.Causes.{Counts, Caused}
+use Rattle.xheaac_tool.specs.Handing.{WrotePart}
 use Rattle.xheaac_tool.specs.Output.{output}
 use Rattle.xheaac_tool.specs.Played.{Traces, PlaysFile, Ends, WroteAll, WroteFront}
 use Rattle.xheaac_tool.specs.Ran.{Notes, Noted, Reports, NotedFront, NotesOf, CausesOf, RunsPlay, status_of, text_of}
 use Rattle.xheaac_tool.specs.Reading.{most_bytes}
+use Rattle.xheaac_tool.specs.Texts.{read_text, write_text, core_text, memory_text}
 use Rattle.xheaac_tool.specs.Stepping.{emitted_through}
 use Rattle.xheaac_tool.specs.Words.{case_of, file_of, Play}
 use Rattle.xheaac_tool.specs.declared.frame.Frame.{Frame}
@@ -111,6 +113,22 @@ front_of d text remains t is.WriteFault p = p.ends
 front_of d text remains t is.CoreFault p = let s = p.ends in (s.0 ++ s.1, s.2, s.3, front_of_first d (take most_bytes text) s.0 s.1 s.2 t s.3.carried s.5)
 front_of d text remains t (is.Memory error) p = p.ends
 
+-- whatever the status, note grew by a front of the outcome's text
+part_noted : (n : Notes) (o : Outcome) (wanted s : ℕ) → Reports n (text_of o) wanted s → WrotePart n.before n.after (text_of o)
+part_noted n o wanted s (inl (a, (inl whole))) = (length (text_of o), whole ∙ ap (λ (x : List ℕ). append_known n.before x) (sym (take_all (length (text_of o)) (text_of o) (omega arith))))
+part_noted n o wanted s (inl (a, (inr (part, risen)))) = part
+part_noted n o wanted s (inr (a, part)) = part
+
+-- and that is a text of the command
+noted_front : (d : Definitions) (text : List ℕ) (remains : Option (List ℕ)) (t : Traces) (n : Notes) (o : Outcome) (p : PlaysFile d text remains t o) → WrotePart n.before n.after (text_of o) → NotedFront n (length (front_of d text remains t o p).0)
+unfolding front_of
+noted_front d text remains t n is.Done p part = (memory_text, inl refl, (0, part.1 ∙ ap (λ (x : List ℕ). append_known n.before x) (take_all part.0 [] (omega arith))))
+noted_front d text remains t n (is.Refused words) p part = let ends = p.ends in (words, inr (inr (inr (inr ends.3))), part)
+noted_front d text remains t n is.ReadFault p part = (read_text, inr (inl refl), part)
+noted_front d text remains t n is.WriteFault p part = (write_text, inr (inr (inl refl)), part)
+noted_front d text remains t n is.CoreFault p part = (core_text, inr (inr (inr (inl refl))), part)
+noted_front d text remains t n (is.Memory error) p part = (memory_text, inl refl, part)
+
 -- ---- the records of the top call
 
 pub runs_play : (d : Definitions) (text : List ℕ) (remains : Option (List ℕ)) (t : Traces) (n : Notes) (o : Outcome) (s : ℕ) → PlaysFile d text remains t o → Reports n (text_of o) (status_of o) s → RunsPlay d text remains t n s
@@ -128,13 +146,8 @@ runs_play d text remains t n o s p r = record {
   read = λ e. subst (λ (x : Outcome). Ends d text p.taken t x) (read_outcome n o s r e) p.ends;
   write = λ e. subst (λ (x : Outcome). Ends d text p.taken t x) (write_outcome n o s r e) p.ends;
   core = λ e. subst (λ (x : Outcome). Ends d text p.taken t x) (core_outcome n o s r e) p.ends;
-  memory = λ e. front_of d text remains t o p;
+  memory = λ e. let f = front_of d text remains t o p in (f.0, f.1, f.2, noted_front d text remains t n o p (part_noted n o (status_of o) s r), f.3);
 }
-
-noted_front : (n : Notes) (o : Outcome) (wanted s : ℕ) → Reports n (text_of o) wanted s → NotedFront n
-noted_front n o wanted s (inl (a, (inl whole))) = (o, (length (text_of o), whole ∙ ap (λ (x : List ℕ). append_known n.before x) (sym (take_all (length (text_of o)) (text_of o) (omega arith)))))
-noted_front n o wanted s (inl (a, (inr (part, risen)))) = (o, part)
-noted_front n o wanted s (inr (a, part)) = (o, part)
 
 pub notes_of : (n : Notes) (o : Outcome) (s : ℕ) → (o ≡ is.Done → (n.after ≡ n.before) × (n.faults_after ≡ n.faults_before)) → Reports n (text_of o) (status_of o) s → NotesOf n s
 notes_of n o s quiet r = record {
@@ -142,7 +155,6 @@ notes_of n o s quiet r = record {
   read = λ e. subst (λ (x : Outcome). Noted n (text_of x)) (read_outcome n o s r e) (told_status n o s 3 r e (omega arith)).1;
   write = λ e. subst (λ (x : Outcome). Noted n (text_of x)) (write_outcome n o s r e) (told_status n o s 4 r e (omega arith)).1;
   core = λ e. subst (λ (x : Outcome). Noted n (text_of x)) (core_outcome n o s r e) (told_status n o s 5 r e (omega arith)).1;
-  memory = λ e. noted_front n o (status_of o) s r;
 }
 
 no_fault : (before now : Counts) (o : Outcome) → status_of o < 3 → Caused before now o → now ≡ before

@@ -47,9 +47,14 @@ text_of is.WriteFault = write_text
 text_of is.CoreFault = core_text
 text_of (is.Memory e) = memory_text
 
--- At status 6 note grew by a front of the text that was being written.
-abbrev pub NotedFront : Notes → Type 0
-NotedFront n = (outcome : Outcome) × WrotePart n.before n.after (text_of outcome)
+-- a text that `play` writes on note behind so many frames
+abbrev pub IsTextOfPlay : ℕ → List ℕ → Type 0
+IsTextOfPlay count text =
+    (text ≡ memory_text) ⊎ ((text ≡ read_text) ⊎ ((text ≡ write_text) ⊎ ((text ≡ core_text) ⊎ (text ≡ not_built_text count))))
+
+-- At status 6 note grew by a front of one of these: that of want of memory, or the one that was being written.
+abbrev pub NotedFront : Notes → ℕ → Type 0
+NotedFront n count = (text : List ℕ) × IsTextOfPlay count text × WrotePart n.before n.after text
 
 -- What `play` tells on note, by its status.
 pub record NotesOf (n : Notes) (status : ℕ) : Type 0 where
@@ -57,7 +62,6 @@ pub record NotesOf (n : Notes) (status : ℕ) : Type 0 where
   pub read : status ≡ 3 → Noted n read_text
   pub write : status ≡ 4 → Noted n write_text
   pub core : status ≡ 5 → Noted n core_text
-  pub memory : status ≡ 6 → NotedFront n
 
 -- Which counts of faults rose, by the status.
 pub record CausesOf (before now : Counts) (status : ℕ) : Type 0 where
@@ -78,4 +82,4 @@ pub record RunsPlay (d : Definitions) (text : List ℕ) (remains : Option (List 
   pub write : status ≡ 4 → (frames : List Frame) × (rest : List ℕ) × IsLongest (take most_bytes text) frames rest × WroteFront d frames t
   -- the frame at which the core failed is the first of the others
   pub core : status ≡ 5 → (played others : List Frame) × (rest : List ℕ) × IsLongest (take most_bytes text) (played ++ others) rest × (0 < length others) × WroteAll d played t
-  pub memory : status ≡ 6 → (frames : List Frame) × (rest : List ℕ) × IsLongest (take most_bytes text) frames rest × WroteFront d frames t
+  pub memory : status ≡ 6 → (frames : List Frame) × (rest : List ℕ) × IsLongest (take most_bytes text) frames rest × NotedFront n (length frames) × WroteFront d frames t
