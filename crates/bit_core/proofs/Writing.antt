@@ -1,12 +1,13 @@
 -- Texts that are written bit by bit and byte by byte.
 use Rattle.std.proofs.Common.{◌≡◌, ℕ, suc, ◌+◌, ◌-◌, ◌*◌, ◌/◌, ◌^◌, ◌<◌, ◌≤◌, Bool, true, false, eqb, List, [], ◌∷◌, ◌++◌, length, get_or, take, drop, refl, sym, ap, ◌∙◌, append_assoc, arith, add-one}
-use Rattle.std.proofs.lemmas.List.{take_more, take-append-le, append-nil, take-take, take_all, length-append}
+use Rattle.std.proofs.lemmas.List.{take_more, take-append-le, append-nil, take-take, take_all, take_at, drop_at, length-append}
 use lib.Bits.{bit_and}
 use Rattle.std.proofs.Math.Nat.{div-div-eq-div-mul}
 use Rattle.std.proofs.Math.Seq.{take-add}
 use Rattle.std.proofs.lemmas.Nat.Bits.{shr_and_one}
 use mir.Val.{bool_byte}
 use Rattle.layout.specs.Text.{num, digit, bits_of}
+use Rattle.bit_core.specs.Writer.{Extends}
 use Rattle.layout.proofs.TextLemmas.{num_push, bool_byte-is, bits_of-append}
 
 next_bit : (i d v : ℕ) → num (suc i) (v / 2 ^ d) ≡ num i (v / 2 ^ suc d) ++ eqb (bit_and (v / 2 ^ d) 1) 1 ∷ []
@@ -69,3 +70,20 @@ pub byte_behind : (old middle : List Bool) (bytes : List ℕ) (i b : ℕ) → i 
 byte_behind old middle bytes i b lt here so_far =
     let more : take (i + 1) bytes ≡ take i bytes ++ b ∷ [] = take_more bytes i 0 lt ∙ ap (λ (j : ℕ). take i bytes ++ j ∷ []) (sym here) in
     ap (λ (t : List Bool). t ++ num 8 b) so_far ∙ append_assoc old (bits_of (take i bytes)) (num 8 b) ∙ ap (λ (t : List Bool). old ++ t) (sym (bits_of_push (take i bytes) b) ∙ ap (λ (xs : List ℕ). bits_of xs) (sym more))
+
+pub extends_by : (old new t : List Bool) → new ≡ old ++ t → Extends old new
+extends_by old new t e = record { held = e ∙ ap (λ (u : List Bool). old ++ u) (sym (ap (λ (w : List Bool). drop (length old) w) e ∙ drop_at old t (length old) refl)) }
+
+pub extends_none : (old : List Bool) → Extends old old
+extends_none old = extends_by old old [] (sym (append-nil old))
+
+pub extends_then : (old middle new : List Bool) → Extends old middle → Extends middle new → Extends old new
+extends_then old middle new p q = extends_by old new (drop (length old) middle ++ drop (length middle) new)
+    (q.held ∙ ap (λ (t : List Bool). t ++ drop (length middle) new) p.held ∙ append_assoc old (drop (length old) middle) (drop (length middle) new))
+
+-- what was held before is what is left when the rest is cut
+pub extends_cut : (old new : List Bool) → Extends old new → take (length old) new ≡ old
+extends_cut old new p = ap (λ (t : List Bool). take (length old) t) p.held ∙ take_at old (drop (length old) new) (length old) refl
+
+pub extends_long : (old new : List Bool) → Extends old new → length old ≤ length new
+extends_long old new p = omega (arith, ap (λ (t : List Bool). length t) p.held, length-append old (drop (length old) new))

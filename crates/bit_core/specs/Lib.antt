@@ -1,3 +1,4 @@
 pub mod Plain
 pub mod Trim
 pub mod Faults
+pub mod Writer

@@ -1,9 +1,12 @@
-ghost use Rattle.std.specs.Prelude.{◌≡◌, ◌≤◌, ◌<◌, ◌^◌, IfOk, OnErr};
+ghost use Rattle.std.specs.Prelude.{◌≡◌, ◌≤◌, ◌<◌, ◌^◌, ◌++◌, IfOk, OnOk, OnErr};
+ghost use Rattle.layout.specs.Text.{num};
 ghost use Rattle.layout.specs.Reading.{Gives, Reads};
 ghost use Rattle.bit_core.specs.Plain.{bits, bit};
 
 use crate::faults::Short;
 use crate::reader::BitReader;
+use crate::writer::BitWriter;
+use std::alloc::AllocError;
 
 /// Takes a number of at most 8 bits, most significant bit first.
 ///
@@ -31,4 +34,16 @@ pub fn flag(reader: &mut BitReader) -> Result<bool, Short>
 {
     let value = reader.take(1)?;
     Ok(value == 1)
+}
+
+/// Puts a number of at most 8 bits, most significant bit first.
+///
+/// Errors: want of memory; nothing is put.
+pub fn put_small(writer: &mut BitWriter, value: u8, n: u32) -> Result<(), AllocError>
+    requires short { n ≤ 8 }
+    requires below { value < 2 ^ n }
+    ensures ok { OnOk result (writer.new ≡ writer.old ++ num n value) }
+    ensures err { OnErr result (writer.new ≡ writer.old) }
+{
+    writer.put(u32::from(value), n)
 }

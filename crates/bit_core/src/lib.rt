@@ -4,12 +4,14 @@
 //! A read takes exactly the next bits, or answers that bits are missing, with the first bit of the field, and leaves the
 //! reader where it was. A writer holds exactly the bits that were put into it, also after a call that is refused, and its
 //! bytes are these bits and the fewest zeros that fill the last byte. Contracts see a reader as a text of bits and a place
-//! in it, and a list or a writer as its entries; how bits are kept is private to this crate.
+//! in it, and a list or a writer as its entries; how bits are kept is private to this crate. `Items` is the list type of the
+//! crates above.
 #![tactic(auto)]
 
 mod bits;
 mod faults;
 mod fields;
+mod items;
 mod octets;
 mod reader;
 mod slices;
@@ -19,7 +21,8 @@ mod writer;
 
 pub use bits::Bits;
 pub use faults::{ReadFault, Short};
-pub use fields::{flag, small};
+pub use fields::{flag, put_small, small};
+pub use items::Items;
 pub use octets::Octets;
 pub use reader::BitReader;
 pub use writer::BitWriter;

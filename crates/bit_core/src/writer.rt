@@ -1,4 +1,4 @@
-ghost use Rattle.std.specs.Prelude.{◌≡◌, ◌%◌, ◌^◌, ◌<◌, ◌≤◌, ◌++◌, [], length, take, IfOk, OnErr, OnOk};
+ghost use Rattle.std.specs.Prelude.{◌≡◌, ◌%◌, ◌^◌, ◌<◌, ◌≤◌, ◌++◌, ◌∷◌, [], length, take, IfOk, OnErr, OnOk};
 ghost use Rattle.layout.specs.Text.{num, bits_of, pad};
 
 use crate::bits::Bits;
@@ -93,6 +93,25 @@ impl BitWriter {
         ensures { result ≡ length self.now }
     {
         self.bits.len() as u64
+    }
+
+    /// Cuts all but the first bits, `len` of them. A write of several fields that is refused goes back with it.
+    pub fn truncate(&mut self, len: u64)
+        requires { len ≤ length self.old }
+        ensures { self.new ≡ take len self.old }
+    {
+        self.bits.truncate(len as usize);
+    }
+
+    /// Puts one bit: 1 for true.
+    ///
+    /// Errors: want of memory; nothing is put.
+    pub fn put_flag(&mut self, bit: bool) -> Result<(), AllocError>
+        ensures ok { OnOk result (self.new ≡ self.old ++ bit ∷ []) }
+        ensures err { OnErr result (self.new ≡ self.old) }
+    {
+        self.bits.push(bit)?;
+        Ok(())
     }
 
     /// Puts a number of at most 32 bits, most significant bit first.

@@ -6,7 +6,7 @@ use Rattle.std.proofs.lemmas.List.{drop_at, drop-drop, length-append, take_at, t
 use Rattle.std.specs.List.{flat_map, AllByRecursion}
 use Rattle.layout.specs.Exact.{IsField, IsExact, IsOpen}
 use Rattle.layout.specs.Fields.{Field, field, parsed, judged, number, number_parse, flag, none_refused, run, run_parse}
-use Rattle.layout.specs.Layout.{◌>>=◌, Layout, both, shaped, wrapped, error_mapped, known, where_set, FitsOption, spelling_of, whole, at_start, StopsWithin, checked, unless_refused, constant, unless_same}
+use Rattle.layout.specs.Layout.{◌>>=◌, Layout, both, shaped, wrapped, error_mapped, known, where_set, FitsOption, spelling_of, whole, at_start, StopsWithin, checked, unless_refused, constant, unless_same, behind, before}
 use Rattle.layout.specs.Reader.{Reader, left, moved}
 use Rattle.layout.specs.Reading.{Gives, GivesUnless, Reads, ReadsUnless}
 use Rattle.layout.specs.Text.{num, value_after}
@@ -622,3 +622,9 @@ same_number v w reason e =
 
 pub constant-exact : {F : Type 0} (reason : ℕ → F) (v : ℕ) (H : Layout ℕ F) → IsExact H → IsExact (constant reason v H)
 constant-exact reason v H h = shaped-exact (λ _. v) (λ _. tt) (checked (unless_same v reason) H) (checked-exact (unless_same v reason) H h) (λ a fits. same_number v a reason fits.1) (λ b fits. refl)
+
+pub behind-exact : {A F : Type 0} (H : Layout (Unit {0}) F) (K : Layout A F) → IsExact H → IsExact K → IsExact (behind H K)
+behind-exact {A} {F} H K h k = shaped-exact {A = Unit {0} × A} {B = A} (λ v. (tt, v)) (λ x. x.1) (both H (λ _. K)) (both-exact H (λ _. K) h (λ _. k)) (λ a fits. refl) (λ b fits. refl)
+
+pub before-exact : {A F : Type 0} (H : Layout A F) (K : Layout (Unit {0}) F) → IsExact H → IsExact K → IsExact (before H K)
+before-exact {A} {F} H K h k = shaped-exact {A = A × Unit {0}} {B = A} (λ v. (v, tt)) (λ x. x.0) (both H (λ _. K)) (both-exact H (λ _. K) h (λ _. k)) (λ a fits. refl) (λ b fits. refl)

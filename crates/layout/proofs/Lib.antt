@@ -2,3 +2,4 @@ pub mod TextLemmas
 pub mod Layouts
 pub mod Counted
 pub mod ToEnd
+pub mod TaggedExact

@@ -120,3 +120,11 @@ unless_same v reason w = if w == v then None else Some reason
 -- a number of which all values but one are refused; it says nothing, and so its value is no part of what is read
 abbrev pub constant : {F : Type 0} → (ℕ → F) → ℕ → Layout ℕ F → Layout (Unit {0}) F
 constant reason v H = shaped (λ _. v) (λ _. tt) (checked (unless_same v reason) H)
+
+-- a layout of no value, behind which another one stands
+abbrev pub behind : {A F : Type 0} → Layout (Unit {0}) F → Layout A F → Layout A F
+behind H K = shaped (λ v. (tt, v)) (λ x. x.1) (both H (λ _. K))
+
+-- a layout behind which nothing of value stands
+abbrev pub before : {A F : Type 0} → Layout A F → Layout (Unit {0}) F → Layout A F
+before H K = shaped (λ v. (v, tt)) (λ x. x.0) (both H (λ _. K))

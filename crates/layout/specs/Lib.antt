@@ -7,3 +7,4 @@ pub mod ToEnd
 pub mod Exact
 pub mod Reading
 pub mod Laws
+pub mod Tagged

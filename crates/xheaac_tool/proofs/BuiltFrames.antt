@@ -11,7 +11,7 @@ use Rattle.layout.specs.Layout.{Layout, both, spelling_of}
 use Rattle.layout.specs.Exact.{IsExact}
 use Rattle.layout.specs.Reading.{GivesUnless}
 use Rattle.layout.proofs.TextLemmas.{num-split, length-num, value_after-num, length-bits_of}
-use Rattle.layout.proofs.Layouts.{both-exact, shaped-exact, wrapped-exact, checked-exact, constant-exact, where_set-exact, left_moved, ok_is, moves}
+use Rattle.layout.proofs.Layouts.{both-exact, shaped-exact, wrapped-exact, checked-exact, constant-exact, where_set-exact, behind-exact, before-exact, left_moved, ok_is, moves}
 use Rattle.bit_core.proofs.PlainFacts.{bits-exact, octets-exact}
 use Rattle.bit_core.specs.declared.faults.ReadFault.TheVariants as reads
 use Rattle.esc_value.specs.SlotLength.{slot_text}
@@ -20,7 +20,7 @@ use Rattle.usac_cfg.specs.UsacExact.{usac_config_exact}
 use Rattle.xheaac_tool.specs.declared.frame.Frame.{Frame}
 use Rattle.xheaac_tool.specs.declared.frame.ElementFault.{ElementFault}
 use Rattle.xheaac_tool.specs.Faults.{not_built, from_short, from_read, from_config, is_memory}
-use Rattle.xheaac_tool.specs.Element.{number, fixed, behind, before, mux_head, mux_tail, object_type, asc_fields, stream_mux, length_refused, slot_of_bytes, same_mux, element}
+use Rattle.xheaac_tool.specs.Element.{number, fixed, mux_head, mux_tail, object_type, asc_fields, stream_mux, length_refused, slot_of_bytes, same_mux, element}
 use Rattle.xheaac_tool.specs.Carrying.{IsBuilt, first_bit}
 
 number-exact : (n : ℕ) → IsExact (number n)
@@ -28,12 +28,6 @@ number-exact n = wrapped-exact from_short _ (bits-exact n)
 
 fixed-exact : (n v : ℕ) → IsExact (fixed n v)
 fixed-exact n v = constant-exact not_built v (number n) (number-exact n)
-
-behind-exact : {A : Type 0} (H : Layout (Unit {0}) ElementFault) (K : Layout A ElementFault) → IsExact H → IsExact K → IsExact (behind H K)
-behind-exact {A} H K h k = shaped-exact {A = Unit {0} × A} {B = A} (λ v. (tt, v)) (λ x. x.1) (both H (λ _. K)) (both-exact H (λ _. K) h (λ _. k)) (λ a fits. refl) (λ b fits. refl)
-
-before-exact : {A : Type 0} (H : Layout A ElementFault) (K : Layout (Unit {0}) ElementFault) → IsExact H → IsExact K → IsExact (before H K)
-before-exact {A} H K h k = shaped-exact {A = A × Unit {0}} {B = A} (λ v. (v, tt)) (λ x. x.0) (both H (λ _. K)) (both-exact H (λ _. K) h (λ _. k)) (λ a fits. refl) (λ b fits. refl)
 
 mux_head-exact : IsExact mux_head
 mux_head-exact = behind-exact _ _ (fixed-exact 1 0) (behind-exact _ _ (fixed-exact 1 1) (behind-exact _ _ (fixed-exact 6 0) (behind-exact _ _ (fixed-exact 4 0) (fixed-exact 3 0))))

@@ -1,7 +1,7 @@
 -- How an AudioMuxElement of the built form is spelled, field by field (ISO/IEC 14496-3, AudioMuxElement, StreamMuxConfig
 -- and AudioSpecificConfig of object type 42).
 use Rattle.std.specs.Prelude.{ℕ, Bool, true, false, not, List, length, Option, Some, None, ◌==◌, if◌then◌else◌}
-use Rattle.layout.specs.Layout.{Layout, both, shaped, wrapped, checked, constant, where_set}
+use Rattle.layout.specs.Layout.{Layout, both, shaped, wrapped, checked, constant, where_set, behind, before}
 use Rattle.bit_core.specs.Plain.{bits, octets}
 use Rattle.esc_value.specs.SlotLength.{slot}
 use Rattle.usac_cfg.specs.Spelling.{usac_config}
@@ -18,14 +18,6 @@ number n = wrapped from_short (bits n)
 -- a number of n bits that has this value
 abbrev pub fixed : ℕ → ℕ → Layout (Unit {0}) ElementFault
 fixed n v = constant not_built v (number n)
-
--- a layout of no value behind which another one stands
-abbrev pub behind : {A : Type 0} → Layout (Unit {0}) ElementFault → Layout A ElementFault → Layout A ElementFault
-behind H K = shaped (λ v. (tt, v)) (λ x. x.1) (both H (λ _. K))
-
--- a layout before which nothing of value stands
-abbrev pub before : {A : Type 0} → Layout A ElementFault → Layout (Unit {0}) ElementFault → Layout A ElementFault
-before H K = shaped (λ v. (v, tt)) (λ x. x.0) (both H (λ _. K))
 
 -- audioMuxVersion, allStreamsSameTimeFraming, numSubFrames, numProgram, numLayer: one program of one layer, one slot an element
 abbrev pub mux_head : Layout (Unit {0}) ElementFault
