@@ -3,4 +3,3 @@ pub mod EscapedExact
 pub mod LatmValue
 pub mod LatmExact
 pub mod SlotLength
-pub mod Writing

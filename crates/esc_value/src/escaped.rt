@@ -1,7 +1,7 @@
 ghost use Rattle.std.specs.Prelude.{◌≡◌, ◌≤◌, ◌<◌, ◌^◌, ◌-◌, ◌++◌, ◌↔◌, OnOk, OnErr, IsErrOf};
 ghost use Rattle.layout.specs.Reading.{Gives, Reads};
 ghost use Rattle.esc_value.specs.Escaped.{summed, escaped, escaped_text, largest};
-ghost use Rattle.esc_value.specs.Writing.{HoldsFront};
+ghost use Rattle.bit_core.specs.Writer.{Extends};
 
 use crate::fault::EscFault;
 use bit_core::{BitReader, BitWriter, Short};
@@ -42,22 +42,43 @@ impl<const A: u32, const B: u32, const C: u32> Escaped<A, B, C> {
 
     /// Writes a number.
     ///
-    /// Errors: `TooLarge` where the number is above the sum of the largest numbers of A, B and C bits, and nothing is
-    /// written; or want of memory, and then a front of the spelling may be written.
+    /// Errors: `TooLarge` where the number is above the sum of the largest numbers of A, B and C bits, or want of memory;
+    /// nothing is written.
     pub fn write(value: u32, writer: &mut BitWriter) -> Result<(), EscFault>
         requires first { (1 ≤ A) × (A ≤ 16) }
         requires second { (1 ≤ B) × (B ≤ 16) }
         requires third { C ≤ 16 }
         ensures ok { OnOk result (writer.new ≡ writer.old ++ escaped_text A B C value) }
         ensures too_large { IsErrOf result EscFault.TooLarge ↔ (largest A B C < value) }
-        ensures untouched { IsErrOf result EscFault.TooLarge → writer.new ≡ writer.old }
-        ensures err { OnErr result (HoldsFront (escaped_text A B C value) writer.old writer.new) }
+        ensures err { OnErr result (writer.new ≡ writer.old) }
     {
         if value > all_ones(A) + all_ones(B) + all_ones(C) {
             return Err(EscFault::TooLarge);
         }
-        Escaped::<A, B, C>::put_fields(value, writer)?;
+        Escaped::<A, B, C>::put(value, writer)?;
         Ok(())
+    }
+
+    /// Puts a number that is known to be no larger than the fields can hold.
+    ///
+    /// Errors: want of memory; nothing is put.
+    #[tactic(auto, using(bit_core::proofs::Writing::extends_cut, bit_core::proofs::Writing::extends_long))]
+    pub fn put(value: u32, writer: &mut BitWriter) -> Result<(), AllocError>
+        requires first { (1 ≤ A) × (A ≤ 16) }
+        requires second { (1 ≤ B) × (B ≤ 16) }
+        requires third { C ≤ 16 }
+        requires within { value ≤ largest A B C }
+        ensures ok { OnOk result (writer.new ≡ writer.old ++ escaped_text A B C value) }
+        ensures err { OnErr result (writer.new ≡ writer.old) }
+    {
+        let start = writer.len();
+        match Escaped::<A, B, C>::put_fields(value, writer) {
+            Ok(()) => Ok(()),
+            Err(fault) => {
+                writer.truncate(start);
+                Err(fault)
+            }
+        }
     }
 
     /// Adds up the fields. A refusal may stand behind some of them.
@@ -79,14 +100,14 @@ impl<const A: u32, const B: u32, const C: u32> Escaped<A, B, C> {
         Ok(first + second + third)
     }
 
-    /// Puts the fields of a number that they can hold.
+    /// Puts the fields. A refusal may stand behind some of them.
     fn put_fields(value: u32, writer: &mut BitWriter) -> Result<(), AllocError>
         requires first { (1 ≤ A) × (A ≤ 16) }
         requires second { (1 ≤ B) × (B ≤ 16) }
         requires third { C ≤ 16 }
         requires within { value ≤ largest A B C }
         ensures ok { OnOk result (writer.new ≡ writer.old ++ escaped_text A B C value) }
-        ensures err { OnErr result (HoldsFront (escaped_text A B C value) writer.old writer.new) }
+        ensures kept { Extends writer.old writer.new }
     {
         let first = all_ones(A);
         if value < first {

@@ -3,7 +3,7 @@
 ghost use Rattle.std.specs.Prelude.{◌≡◌, ◌≤◌, ◌<◌, ◌^◌, ◌*◌, ◌++◌, IfOk, OnOk, OnErr};
 ghost use Rattle.layout.specs.Reading.{Gives, Reads};
 ghost use Rattle.esc_value.specs.LatmValue.{IsWellFormed, latm_text, latm_fields, latm_value};
-ghost use Rattle.esc_value.specs.Writing.{HoldsFront};
+ghost use Rattle.bit_core.specs.Writer.{Extends};
 
 use bit_core::{BitReader, BitWriter, Short, small};
 use std::alloc::AllocError;
@@ -42,15 +42,32 @@ impl LatmValue {
 
     /// Writes a well formed number.
     ///
-    /// Errors: want of memory, and then a front of the spelling may be written.
+    /// Errors: want of memory; nothing is written.
+    #[tactic(auto, using(bit_core::proofs::Writing::extends_cut, bit_core::proofs::Writing::extends_long))]
     pub fn write(&self, writer: &mut BitWriter) -> Result<(), AllocError>
         requires { IsWellFormed self.now }
         ensures ok { OnOk result (writer.new ≡ writer.old ++ latm_text self.now) }
-        ensures err { OnErr result (HoldsFront (latm_text self.now) writer.old writer.new) }
+        ensures err { OnErr result (writer.new ≡ writer.old) }
     {
-        writer.put(u32::from(self.bytes) - 1, 2)?;
-        writer.put(self.value, 8 * u32::from(self.bytes))
+        let start = writer.len();
+        match put_fields(*self, writer) {
+            Ok(()) => Ok(()),
+            Err(fault) => {
+                writer.truncate(start);
+                Err(fault)
+            }
+        }
     }
+}
+
+/// Puts the fields. A refusal may stand behind the first of them.
+fn put_fields(value: LatmValue, writer: &mut BitWriter) -> Result<(), AllocError>
+    requires { IsWellFormed value }
+    ensures ok { OnOk result (writer.new ≡ writer.old ++ latm_text value) }
+    ensures kept { Extends writer.old writer.new }
+{
+    writer.put(u32::from(value.bytes) - 1, 2)?;
+    writer.put(value.value, 8 * u32::from(value.bytes))
 }
 
 /// Reads the fields. A refusal may stand behind the first of them.

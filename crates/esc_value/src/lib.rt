@@ -3,7 +3,7 @@
 //!
 //! A read takes exactly the spelling of what it answers, and is short exactly where what is left is a proper prefix of
 //! spellings; then the reader stays where it was, and the place is the first bit of the whole number. A write puts
-//! exactly the spelling; where memory is short it may leave a front of it behind what the writer held.
+//! exactly the spelling, or nothing.
 #![tactic(auto)]
 
 mod escaped;

@@ -2,7 +2,7 @@ ghost use Rattle.std.specs.Prelude.{◌≡◌, ◌+◌, ◌*◌, ◌≤◌, ◌+
 ghost use Rattle.layout.specs.Reader.{left};
 ghost use Rattle.layout.specs.Reading.{Gives, Reads, IsOnwards};
 ghost use Rattle.esc_value.specs.SlotLength.{slot, slot_text};
-ghost use Rattle.esc_value.specs.Writing.{HoldsFront};
+ghost use Rattle.bit_core.specs.Writer.{Extends};
 
 use bit_core::{BitReader, BitWriter, Short, small};
 use std::alloc::AllocError;
@@ -33,16 +33,32 @@ impl SlotLength {
 
     /// Writes a length, in bytes.
     ///
-    /// Errors: want of memory, and then a front of the spelling may be written.
+    /// Errors: want of memory; nothing is written.
+    #[tactic(auto, using(bit_core::proofs::Writing::extends_cut, bit_core::proofs::Writing::extends_long))]
     pub fn write(length: u32, writer: &mut BitWriter) -> Result<(), AllocError>
         ensures ok { OnOk result (writer.new ≡ writer.old ++ slot_text length) }
-        ensures err { OnErr result (HoldsFront (slot_text length) writer.old writer.new) }
+        ensures err { OnErr result (writer.new ≡ writer.old) }
     {
-        for _ in 0..length / 255 {
-            writer.put(255, 8)?;
+        let start = writer.len();
+        match put_bytes(length, writer) {
+            Ok(()) => Ok(()),
+            Err(fault) => {
+                writer.truncate(start);
+                Err(fault)
+            }
         }
-        writer.put(length % 255, 8)
     }
+}
+
+/// Puts the bytes. A refusal may stand behind some of them.
+fn put_bytes(length: u32, writer: &mut BitWriter) -> Result<(), AllocError>
+    ensures ok { OnOk result (writer.new ≡ writer.old ++ slot_text length) }
+    ensures kept { Extends writer.old writer.new }
+{
+    for _ in 0..length / 255 {
+        writer.put(255, 8)?;
+    }
+    writer.put(length % 255, 8)
 }
 
 /// Adds up bytes until one of them is not 255. A refusal may stand behind some of them.

@@ -1,7 +1,7 @@
 use Rattle.std.proofs.Common.{arith}
 use Rattle.std.proofs.lemmas.Result.{on_ok_weaker}
 use Rattle.esc_value.proofs.SlotWrites.{goes_on, ends}
-use Rattle.esc_value.proofs.slot_length.SlotLength.write.Goals as goal
+use Rattle.esc_value.proofs.slot_length.put_bytes.Goals as goal
 
 pub loop-preserved : goal.loop-preserved
 loop-preserved c = goes_on c.args.length c.loop.counter c.args.writer.now c.loop.writer c.put.new.self c.loop.invariant c.loop-test.true c.in_ok-put.ensures.ok
