@@ -1,0 +1,23 @@
+//! No spelling of settings begins another's.
+//!
+//! The functions run no code; their contracts are the theorems.
+ghost use Rattle.std.specs.Prelude.{ℕ};
+ghost use Rattle.layout.specs.Laws.{HasOneSpelling};
+ghost use Rattle.sbr_mps.specs.CoreConfig.{core_config};
+ghost use Rattle.sbr_mps.specs.SbrConfig.{sbr_config};
+ghost use Rattle.sbr_mps.specs.Mps212.{mps212};
+
+/// No spelling of the settings of a core is a prefix of another's.
+pub fn core_config_has_one_spelling()
+    ensures { HasOneSpelling core_config }
+{}
+
+/// No spelling of the settings of SBR is a prefix of another's.
+pub fn sbr_config_has_one_spelling()
+    ensures { HasOneSpelling sbr_config }
+{}
+
+/// No spelling of the settings of MPEG Surround 2-1-2 is a prefix of another's, where both stand behind one stereo index.
+pub fn mps212_has_one_spelling()
+    ensures { (stereo : ℕ) → HasOneSpelling (mps212 stereo) }
+{}
