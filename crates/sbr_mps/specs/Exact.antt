@@ -26,8 +26,8 @@ limit-exact = shaped-exact _ _ _ (both-exact _ _ (bits-exact 2) (λ _. both-exac
 
 sbr_fields-exact : IsExact sbr.fields
 sbr_fields-exact = shaped-exact _ _ _ (
-      both-exact _ _ bit-exact (λ _. both-exact _ _ bit-exact (λ _. both-exact _ _ bit-exact (λ _. both-exact _ _ (bits-exact 4) (λ _. both-exact _ _ (bits-exact 4) (λ _.
-      both-exact _ _ bit-exact (λ has_freq. both-exact _ _ bit-exact (λ has_limit. both-exact _ _ (where_set-exact has_freq sbr.freq freq-exact) (λ _. where_set-exact has_limit sbr.limit limit-exact)))))))))
+    both-exact _ _ bit-exact (λ _. both-exact _ _ bit-exact (λ _. both-exact _ _ bit-exact (λ _. both-exact _ _ (bits-exact 4) (λ _. both-exact _ _ (bits-exact 4) (λ _.
+    both-exact _ _ bit-exact (λ has_freq. both-exact _ _ bit-exact (λ has_limit. both-exact _ _ (where_set-exact has_freq sbr.freq freq-exact) (λ _. where_set-exact has_limit sbr.limit limit-exact)))))))))
     (λ a h. let t = h.1.1.1.1.1.1.1 in rw (t.0.0, t.1.0) refl) (λ b h. refl)
 
 freq_fits : (o : Option SbrFreq) → FitsOption sbr.IsFreqWellFormed o → FitsOption sbr.freq.Fits o
@@ -62,8 +62,8 @@ residual-exact = shaped-exact _ _ _ (both-exact _ _ (bits-exact 5) (λ _. bit-ex
 
 mps_fields-exact : (stereo : ℕ) → IsExact (mps.fields stereo)
 mps_fields-exact stereo = shaped-exact _ _ _ (
-      both-exact _ _ (bits-exact 3) (λ _. both-exact _ _ (bits-exact 3) (λ _. both-exact _ _ (bits-exact 2) (λ temp_shape. both-exact _ _ (bits-exact 2) (λ _. both-exact _ _ bit-exact (λ _. both-exact _ _ bit-exact (λ _. both-exact _ _ bit-exact (λ has_phase.
-      both-exact _ _ (where_set-exact has_phase (bits 5) (bits-exact 5)) (λ _. both-exact _ _ (where_set-exact (mps.has_residual stereo) mps.residual residual-exact) (λ _. where_set-exact (temp_shape == 2) bit bit-exact))))))))))
+    both-exact _ _ (bits-exact 3) (λ _. both-exact _ _ (bits-exact 3) (λ _. both-exact _ _ (bits-exact 2) (λ temp_shape. both-exact _ _ (bits-exact 2) (λ _. both-exact _ _ bit-exact (λ _. both-exact _ _ bit-exact (λ _. both-exact _ _ bit-exact (λ has_phase.
+    both-exact _ _ (where_set-exact has_phase (bits 5) (bits-exact 5)) (λ _. both-exact _ _ (where_set-exact (mps.has_residual stereo) mps.residual residual-exact) (λ _. where_set-exact (temp_shape == 2) bit bit-exact))))))))))
     (λ a h. rw h.1.1.1.1.1.1.1.0.0 refl) (λ b h. refl)
 
 phase_fits : (o : Option ℕ) → FitsOption (λ p. p < 32) o → FitsOption (bits 5).Fits o

@@ -40,4 +40,7 @@ macro_rules! write_fields {
     };
 }
 
-pub(crate) use {read_field, read_fields, write_field, write_fields};
+pub(crate) use read_field;
+pub(crate) use read_fields;
+pub(crate) use write_field;
+pub(crate) use write_fields;

@@ -13,8 +13,6 @@ pub mod laws;
 mod mps;
 mod sbr;
 
-
-
 pub use core_config::CoreConfig;
 pub use mps::{Mps212, Residual};
 pub use sbr::{SbrConfig, SbrFreq, SbrLimit};

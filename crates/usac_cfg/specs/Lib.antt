@@ -1,4 +1,6 @@
 pub mod Faults
+pub mod ExtConfig
+pub mod ElementConfig
 pub mod UsacConfig
 pub mod Spelling
 pub mod UsacExact

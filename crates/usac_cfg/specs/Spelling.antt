@@ -1,13 +1,17 @@
--- How a configuration of the built form is spelled, field by field (ISO/IEC 23003-3, UsacConfig).
-use Rattle.std.specs.Prelude.{ℕ, Option, Some, None, nat_lt, ◌==◌, ◌||◌, if◌then◌else◌}
-use Rattle.layout.specs.Layout.{Layout, both, shaped, wrapped, checked, constant}
-use Rattle.bit_core.specs.Plain.{bits, bit}
-use Rattle.usac_cfg.specs.declared.core_config.CoreConfig.{CoreConfig}
+-- How a configuration is spelled, field by field (ISO/IEC 23003-3, UsacConfig).
+use Rattle.std.specs.Prelude.{◌≡◌, ℕ, ◌+◌, ◌-◌, Bool, true, false, List, [], length, Option, Some, None, nat_lt, ◌==◌, if◌then◌else◌}
+use Rattle.layout.specs.Layout.{Layout, both, shaped, wrapped, checked, constant, known, behind}
+use Rattle.layout.specs.Times.{times}
+use Rattle.bit_core.specs.Plain.{bits}
+use Rattle.esc_value.specs.Escaped.{escaped}
 use Rattle.usac_cfg.specs.declared.usac_config.UsacConfig.{UsacConfig}
+use Rattle.usac_cfg.specs.declared.config_ext.ConfigExt.{ConfigExt}
+use Rattle.usac_cfg.specs.declared.element_config.ElementConfig.{ElementConfig}
 use Rattle.usac_cfg.specs.declared.faults.CfgFault.{CfgFault}
 use Rattle.usac_cfg.specs.declared.faults.CfgFault.TheVariants as faults
 use Rattle.usac_cfg.specs.Faults.{from_short}
-use Rattle.usac_cfg.specs.UsacConfig.{IsWellFormed}
+use Rattle.usac_cfg.specs.ElementConfig.{element}
+use Rattle.usac_cfg.specs.UsacConfig.{IsWellFormed, is_rate, is_frame, is_channels, has_sbr}
 
 abbrev pub not_built : ℕ → CfgFault
 not_built at = faults.FormNotBuilt at
@@ -16,49 +20,76 @@ not_built at = faults.FormNotBuilt at
 abbrev pub number : ℕ → Layout ℕ CfgFault
 number n = wrapped from_short (bits n)
 
--- a number of n bits that has this value
-abbrev pub fixed : ℕ → ℕ → Layout (Unit {0}) CfgFault
-fixed n v = constant not_built v (number n)
-
--- usacSamplingFrequencyIndex: 13, 14 and 28 to 30 are reserved, and 31 is the escape
+-- which values are refused, and why
 abbrev pub rate_refused : ℕ → Option (ℕ → CfgFault)
-rate_refused n = if ((n == 13) || (n == 14)) || nat_lt 27 n then Some not_built else None
+rate_refused n = if is_rate n then None else Some (λ at. faults.RateReserved at)
 
--- coreSbrFrameLengthIndex: 0 and 1 have no SBR
+abbrev pub zero_refused : ℕ → Option (ℕ → CfgFault)
+zero_refused n = if n == 0 then Some (λ at. faults.RateZero at) else None
+
 abbrev pub frame_refused : ℕ → Option (ℕ → CfgFault)
-frame_refused n = if nat_lt 1 n then Some not_built else None
+frame_refused n = if is_frame n then None else Some (λ at. faults.FrameReserved at)
 
--- UsacCoreConfig: tw_mdct, noiseFilling
-abbrev pub core_config : Layout CoreConfig CfgFault
-core_config = shaped (λ v. (v.tw_mdct, v.noise_filling)) (λ (tw_mdct, noise_filling). record { tw_mdct = tw_mdct; noise_filling = noise_filling })
-    (both (wrapped from_short bit) (λ _. wrapped from_short bit))
+abbrev pub channel_refused : ℕ → Option (ℕ → CfgFault)
+channel_refused n = if is_channels n then None else Some (λ at. faults.ChannelReserved at)
 
-abbrev pub fields : Layout (ℕ × (ℕ × (Unit {0} × (Unit {0} × (Unit {0} × (CoreConfig × Unit {0})))))) CfgFault
-fields =
-    both (checked rate_refused (number 5)) (λ _.
-    both (checked frame_refused (number 3)) (λ _.
-    -- channelConfigurationIndex: one channel
-    both (fixed 5 1) (λ _.
-    -- numElements: one, spelled with no escape
-    both (fixed 4 0) (λ _.
-    -- usacElementType: ID_USAC_SCE
-    both (fixed 2 0) (λ _.
-    both core_config (λ _.
-    -- usacConfigExtensionPresent: none
-    fixed 1 0))))))
+abbrev pub count_refused : ℕ → Option (ℕ → CfgFault)
+count_refused n = if n == 0 then Some (λ at. faults.NoChannels at) else if nat_lt 64 n then Some (λ at. faults.TooManyChannels at) else None
 
--- the same fields as a configuration
-abbrev pub steps : Layout UsacConfig CfgFault
-steps = shaped
-    (λ v. (v.rate_index, (v.frame_index, (tt, (tt, (tt, (v.core, tt)))))))
-    (λ (rate_index, (frame_index, (_, (_, (_, (core, _)))))). record { rate_index = rate_index; frame_index = frame_index; core = core })
-    fields
+-- one less than the number of elements
+abbrev pub elements_refused : ℕ → Option (ℕ → CfgFault)
+elements_refused n = if nat_lt 63 n then Some (λ at. faults.TooManyElements at) else None
 
--- A configuration of the built form: the well formed ones, in these fields.
+-- usacSamplingFrequencyIndex
+abbrev pub rate : Layout ℕ CfgFault
+rate = checked rate_refused (number 5)
+
+-- usacSamplingFrequency, where the index says so; else 0 and no bits
+abbrev pub explicit : Bool → Layout ℕ CfgFault
+explicit true = checked zero_refused (number 24)
+explicit false = known 0
+
+-- coreSbrFrameLengthIndex
+abbrev pub frame : Layout ℕ CfgFault
+frame = checked frame_refused (number 3)
+
+-- channelConfigurationIndex
+abbrev pub channel : Layout ℕ CfgFault
+channel = checked channel_refused (number 5)
+
+-- UsacChannelConfig, where the index says so: numOutChannels, and bsOutputChannelPos for each; else none
+abbrev pub positions : Bool → Layout (List ℕ) CfgFault
+positions true = shaped (λ ps. (length ps, ps)) (λ x. x.1) (both (checked count_refused (wrapped from_short (escaped 5 8 16))) (λ n. times n (number 5)))
+positions false = known []
+
+-- UsacDecoderConfig: numElements, less one, and each element
+abbrev pub elements : Bool → Layout (List ElementConfig) CfgFault
+elements sbr = shaped (λ es. (length es - 1, es)) (λ x. x.1) (both (checked elements_refused (wrapped from_short (escaped 4 8 16))) (λ n. times (n + 1) (element sbr)))
+
+-- usacConfigExtensionPresent: none
+abbrev pub no_extensions : Layout (List ConfigExt) CfgFault
+no_extensions = behind (constant not_built 0 (number 1)) (known [])
+
+abbrev pub fields : Layout UsacConfig CfgFault
+fields = shaped
+    (λ v. (v.rate_index, (v.rate_explicit, (v.frame_index, (v.channel_index, (v.positions, (v.elements, v.extensions)))))))
+    (λ (rate_index, (rate_explicit, (frame_index, (channel_index, (positions, (elements, extensions)))))). record {
+      rate_index = rate_index;
+      rate_explicit = rate_explicit;
+      frame_index = frame_index;
+      channel_index = channel_index;
+      positions = positions;
+      elements = elements;
+      extensions = extensions;
+    })
+    (both rate (λ index. both (explicit (index == 31)) (λ _. both frame (λ frame_index. both channel (λ channel_index.
+    both (positions (channel_index == 0)) (λ _. both (elements (has_sbr frame_index)) (λ _. no_extensions)))))))
+
+-- The well formed configurations without extensions, in these fields.
 abbrev pub usac_config : Layout UsacConfig CfgFault
 usac_config = record {
-  Fits = IsWellFormed;
-  spelling = steps.spelling;
-  Faults = steps.Faults;
-  read = steps.read;
+  Fits = λ c. IsWellFormed c × (c.extensions ≡ []);
+  spelling = fields.spelling;
+  Faults = fields.Faults;
+  read = fields.read;
 }

@@ -1,18 +1,68 @@
--- A configuration (ISO/IEC 23003-3, UsacConfig) of the form that is built so far, and what its fields stand for.
-use Rattle.std.specs.Prelude.{◌≢◌, ℕ, ◌<◌, ◌==◌, if◌then◌else◌}
+-- A configuration (ISO/IEC 23003-3, UsacConfig), and what its fields stand for.
+use Rattle.std.specs.Prelude.{◌≡◌, ℕ, ◌+◌, ◌^◌, ◌<◌, ◌≤◌, Bool, true, false, List, [], ◌∷◌, Option, Some, None, length, nat_lt, is_some, not, unwrap_or, ◌==◌, ◌||◌, if◌then◌else◌}
+use Rattle.std.specs.List.{AllByRecursion}
+use Rattle.tables.specs.Tables.{rates, frames, channels as channel_table, at_index}
+use Rattle.tables.specs.declared.frame.FrameShape.{FrameShape}
 use Rattle.usac_cfg.specs.declared.usac_config.UsacConfig.{UsacConfig}
+use Rattle.usac_cfg.specs.declared.config_ext.ConfigExt.{ConfigExt}
+use Rattle.usac_cfg.specs.ElementConfig.{IsWellFormed as IsElementWellFormed}
 
--- The frequency index is not reserved and no escape, and there is no SBR.
+-- usacSamplingFrequencyIndex names a frequency, or says that one follows.
+abbrev pub is_rate : ℕ → Bool
+is_rate index = is_some (at_index rates index) || index == 31
+
+-- coreSbrFrameLengthIndex is not reserved.
+abbrev pub is_frame : ℕ → Bool
+is_frame index = is_some (at_index frames index)
+
+-- channelConfigurationIndex names a number of channels, or says that UsacChannelConfig follows.
+abbrev pub is_channels : ℕ → Bool
+is_channels index = is_some (at_index channel_table index) || index == 0
+
+-- the lengths of a frame and sbrRatioIndex, by coreSbrFrameLengthIndex
+abbrev pub shape_at : ℕ → FrameShape
+shape_at index = unwrap_or (at_index frames index) (record { core = 0; ratio = 0; output = 0 })
+
+-- whether a configuration with this coreSbrFrameLengthIndex has SBR: sbrRatioIndex is not 0
+abbrev pub has_sbr : ℕ → Bool
+has_sbr index = nat_lt 0 (shape_at index).ratio
+
+-- usacSamplingFrequency: from 1 to 2^24 - 1 where it is there, and 0 elsewhere
+abbrev pub IsExplicit : Bool → ℕ → Type 0
+IsExplicit true rate = (1 ≤ rate) × (rate < 2 ^ 24)
+IsExplicit false rate = rate ≡ 0
+
+-- bsOutputChannelPos: from 1 to 64 positions of 5 bits where they are there, and none elsewhere
+abbrev pub ArePositions : Bool → List ℕ → Type 0
+ArePositions true positions = (1 ≤ length positions) × (length positions ≤ 64) × AllByRecursion (λ p. p < 32) positions
+ArePositions false positions = positions ≡ []
+
+pub record IsExtensionWellFormed (v : ConfigExt) : Type 0 where
+  pub kind : v.kind ≤ 65805
+  pub length : length v.bytes ≤ 65805
+  pub bytes : AllByRecursion (λ b. b < 256) v.bytes
+
+-- Every field fits its bits, no index is reserved, and what depends on an index is there exactly where it says so.
 pub record IsWellFormed (c : UsacConfig) : Type 0 where
-  pub rate : c.rate_index < 28
-  pub rate_not_13 : c.rate_index ≢ 13
-  pub rate_not_14 : c.rate_index ≢ 14
-  pub frame : c.frame_index < 2
+  pub rate : is_rate c.rate_index ≡ true
+  pub explicit : IsExplicit (c.rate_index == 31) c.rate_explicit
+  pub frame : is_frame c.frame_index ≡ true
+  pub channel : is_channels c.channel_index ≡ true
+  pub positions : ArePositions (c.channel_index == 0) c.positions
+  pub some : 1 ≤ length c.elements
+  pub few : length c.elements ≤ 64
+  pub elements : AllByRecursion (IsElementWellFormed (has_sbr c.frame_index)) c.elements
+  pub few_extensions : length c.extensions ≤ 274
+  pub extensions : AllByRecursion IsExtensionWellFormed c.extensions
 
--- the output frame length by coreSbrFrameLengthIndex, in samples a channel
+-- sbrRatioIndex: 0 without SBR, 1 for 4:1, 2 for 8:3, 3 for 2:1
+abbrev pub ratio : UsacConfig → ℕ
+ratio c = (shape_at c.frame_index).ratio
+
+-- the samples of a frame and a channel at the decoder's output
 abbrev pub frame_length : UsacConfig → ℕ
-frame_length c = if c.frame_index == 0 then 768 else 1024
+frame_length c = (shape_at c.frame_index).output
 
--- the number of output channels: channelConfigurationIndex is 1
+-- the number of output channels
 abbrev pub channels : UsacConfig → ℕ
-channels c = 1
+channels c = if c.channel_index == 0 then length c.positions else unwrap_or (at_index channel_table c.channel_index) 0

@@ -1,76 +1,327 @@
 -- A configuration is read exactly.
-use Rattle.std.proofs.Common.{◌≡◌, ◌≢◌, ℕ, ◌^◌, ◌<◌, Some, None, refl, arith, inl, inr}
-use Rattle.std.proofs.lemmas.Bool.{cases_lt, cases_eq, eq-eqb, ne_eqb, le-ltb, lt-ltb}
+use Rattle.std.proofs.Common.{◌≡◌, ℕ, zero, suc, ◌+◌, ◌-◌, ◌^◌, ◌<◌, ◌≤◌, Bool, true, false, List, [], ◌∷◌, length, get_or, Option, Some, None, refl, sym, ap, subst, ◌∙◌, arith, inl, inr, add-one}
+use Rattle.std.specs.Prelude.{◌⊎◌, is_some, nat_lt, ◌==◌, ◌||◌, if◌then◌else◌}
+use Rattle.std.specs.List.{AllByRecursion}
+use Rattle.std.proofs.lemmas.Bool.{cases_lt, cases_eq, eq-eqb, ne_eqb, le-ltb, lt-ltb, eqb-true}
+use Rattle.std.proofs.lemmas.List.{get_or_past}
+use Rattle.layout.specs.Layout.{FitsOption, known, wrapped, both, where_set}
+use Rattle.layout.specs.Tagged.{FitsIn}
 use Rattle.layout.specs.Exact.{IsExact}
-use Rattle.layout.proofs.Layouts.{both-exact, shaped-exact, wrapped-exact, checked-exact, constant-exact, same-exact}
-use Rattle.bit_core.proofs.PlainFacts.{bits-exact, bit-exact}
+use Rattle.layout.proofs.Layouts.{both-exact, shaped-exact, wrapped-exact, checked-exact, constant-exact, where_set-exact, known-exact, behind-exact, times-exact, same-exact, some_is}
+use Rattle.layout.proofs.TaggedExact.{tagged-exact, as_variant-exact}
+use Rattle.bit_core.specs.declared.faults.ReadFault.TheVariants as reads
+use Rattle.bit_core.specs.Plain.{bits}
+use Rattle.bit_core.proofs.PlainFacts.{bits-exact, bit-exact, octets-exact}
+use Rattle.esc_value.specs.EscapedExact.{escaped_exact}
+use Rattle.tables.specs.Tables.{rates, frames, channels as channel_table, at_index}
+use Rattle.sbr_mps.specs.declared.core_config.CoreConfig.{CoreConfig}
+use Rattle.sbr_mps.specs.declared.sbr.SbrConfig.{SbrConfig}
+use Rattle.sbr_mps.specs.declared.mps.Mps212.{Mps212}
+use Rattle.sbr_mps.specs.Exact.{core_config_exact, sbr_config_exact, mps212_exact}
+use Rattle.sbr_mps.specs.Mps212 as mps
+use Rattle.sbr_mps.specs.SbrConfig as sbr
+use Rattle.usac_cfg.specs.declared.ext_config.ExtConfig.{ExtConfig}
+use Rattle.usac_cfg.specs.declared.config_ext.ConfigExt.{ConfigExt}
+use Rattle.usac_cfg.specs.declared.element_config.ElementConfig.{ElementConfig}
+use Rattle.usac_cfg.specs.declared.element_config.ElementConfig.TheVariants.{Single, Pair, Lfe, Ext}
 use Rattle.usac_cfg.specs.declared.usac_config.UsacConfig.{UsacConfig}
-use Rattle.usac_cfg.specs.Faults.{from_short}
-use Rattle.usac_cfg.specs.UsacConfig.{IsWellFormed}
-use Rattle.usac_cfg.specs.Spelling.{not_built, number, fixed, rate_refused, frame_refused, core_config, fields, steps, usac_config}
+use Rattle.usac_cfg.specs.declared.faults.CfgFault.{CfgFault}
+use Rattle.usac_cfg.specs.declared.faults.CfgFault.TheVariants as faults
+use Rattle.usac_cfg.specs.Faults.{from_short, from_read}
+use Rattle.usac_cfg.specs.ExtConfig as ext
+use Rattle.usac_cfg.specs.ElementConfig as element
+use Rattle.usac_cfg.specs.UsacConfig.{IsWellFormed, IsExplicit, ArePositions, is_rate, is_frame, is_channels, has_sbr}
+use Rattle.usac_cfg.specs.Spelling.{not_built, number, rate_refused, zero_refused, frame_refused, channel_refused, count_refused, elements_refused, explicit, positions, elements, no_extensions, fields, usac_config}
+
+all_so : {A : Type 0} (P Q : A → Type 0) → ((x : A) → P x → Q x) → (xs : List A) → AllByRecursion P xs → AllByRecursion Q xs
+all_so P Q so [] h = tt
+all_so P Q so (x ∷ xs) h = (so x h.0, all_so P Q so xs h.1)
+
+-- ---- extension elements
+
+escaped-exact : (a b c : ℕ) → IsExact (ext.number a b c)
+escaped-exact a b c = wrapped-exact from_short _ (escaped_exact a b c)
+
+bytes-exact : (n : ℕ) → IsExact (ext.run_of_bytes n)
+bytes-exact n = wrapped-exact from_read _ (wrapped-exact reads.Short _ (octets-exact n))
+
+abbrev flag_and : Bool → Option ℕ → Bool × Option ℕ
+flag_and b o = (b, o)
+
+default_back : (b : Bool) (o : Option ℕ) → is_some o ≡ b → flag_and (nat_lt 0 (ext.decoded o)) (ext.coded (ext.decoded o)) ≡ flag_and b o
+default_back b None e = ap (λ (x : Bool). flag_and x None) e
+default_back b (Some n) e = rw (add-one, lt-ltb 0 (suc n) (omega arith)) (ap (λ (x : Bool). flag_and x (Some n)) e)
+
+default_there : (n : ℕ) → ext.decoded (ext.coded n) ≡ n
+default_there zero = refl
+default_there (suc n) = omega arith
+
+default_length-exact : IsExact ext.default_length
+default_length-exact = shaped-exact _ _ _ (both-exact _ _ (wrapped-exact from_short _ bit-exact) (λ there. where_set-exact there _ (escaped-exact 8 16 0))) (λ a h. default_back a.0 a.1 h.1.0) (λ n h. default_there n)
+
+ext_fields-exact : IsExact ext.fields
+ext_fields-exact = shaped-exact _ _ _ (
+    both-exact _ _ (escaped-exact 4 8 16) (λ _. both-exact _ _ (escaped-exact 4 8 16) (λ n. both-exact _ _ default_length-exact (λ _. both-exact _ _ (wrapped-exact from_short _ bit-exact) (λ _. bytes-exact n)))))
+    (λ a h. rw h.1.1.1.1.0 refl) (λ b h. refl)
+
+default_fits : (n : ℕ) → n ≤ 65791 → ext.default_length.Fits n
+default_fits zero le = ((tt, refl), (refl, tt))
+default_fits (suc n) le = ((tt, refl), (sym (lt-ltb 0 (suc n) (omega arith)), omega arith))
+
+default_small : (n : ℕ) → ext.default_length.Fits n → n ≤ 65791
+default_small zero h = omega arith
+default_small (suc n) h = let le : n ≤ 65790 = h.1.1 in omega arith
+
+ext_fits : (v : ExtConfig) → ext.IsWellFormed v → ext.fields.Fits v
+ext_fits v w = (w.kind, (w.length, (default_fits v.default_length w.default_length, ((tt, refl), (refl, all_so _ _ (λ b lt. (lt, refl)) v.bytes w.bytes)))))
+
+ext_well : (v : ExtConfig) → ext.fields.Fits v → ext.IsWellFormed v
+ext_well v h = record {
+  kind = h.0;
+  length = h.1.0;
+  default_length = default_small v.default_length h.1.1.0;
+  bytes = all_so _ _ (λ b fits. fits.0) v.bytes h.1.1.1.1.1;
+}
+
+pub ext_config_exact : IsExact ext.ext_config
+ext_config_exact = same-exact ext.fields ext.ext_config ext_fields-exact (λ v w. (ext_fits v w, refl)) (λ v h. (ext_well v h, refl)) (λ r. refl) (λ at f t bad. bad) (λ at f t bad. bad)
+
+-- ---- elements
+
+stereo-exact : (b : Bool) → IsExact (element.stereo b)
+stereo-exact true = bits-exact 2
+stereo-exact false = known-exact 0
+
+single_back : (v : ElementConfig) (a : CoreConfig × Option SbrConfig) → element.single_of v ≡ Some a → Single a.0 a.1 ≡ v
+single_back (Single c s) a e = let p = some_is (c, s) a e in ap (λ (x : CoreConfig × Option SbrConfig). Single x.0 x.1) (sym p)
+single_back (Pair c s n m) a e = absurd cc
+single_back Lfe a e = absurd cc
+single_back (Ext x) a e = absurd cc
+
+pair_back : (v : ElementConfig) (a : CoreConfig × (Option SbrConfig × (ℕ × Option Mps212))) → element.pair_of v ≡ Some a → Pair a.0 a.1.0 a.1.1.0 a.1.1.1 ≡ v
+pair_back (Single c s) a e = absurd cc
+pair_back (Pair c s n m) a e = let p = some_is (c, (s, (n, m))) a e in ap (λ (x : CoreConfig × (Option SbrConfig × (ℕ × Option Mps212))). Pair x.0 x.1.0 x.1.1.0 x.1.1.1) (sym p)
+pair_back Lfe a e = absurd cc
+pair_back (Ext x) a e = absurd cc
+
+ext_back : (v : ElementConfig) (a : ExtConfig) → element.ext_of v ≡ Some a → Ext a ≡ v
+ext_back (Single c s) a e = absurd cc
+ext_back (Pair c s n m) a e = absurd cc
+ext_back Lfe a e = absurd cc
+ext_back (Ext x) a e = let p = some_is x a e in ap (λ (y : ExtConfig). Ext y) (sym p)
+
+single-exact : (b : Bool) → IsExact (element.single b)
+single-exact b = as_variant-exact _ _ _ (both-exact _ _ core_config_exact (λ _. where_set-exact b _ sbr_config_exact)) (λ a. refl) single_back
+
+pair-exact : (b : Bool) → IsExact (element.pair b)
+pair-exact b = as_variant-exact _ _ _ (
+    both-exact _ _ core_config_exact (λ _. both-exact _ _ (where_set-exact b _ sbr_config_exact) (λ _. both-exact _ _ (stereo-exact b) (λ n. where_set-exact (nat_lt 0 n) _ (mps212_exact n)))))
+    (λ a. refl) pair_back
+
+body-exact : (b : Bool) (n : ℕ) → IsExact (element.body b n)
+body-exact b zero = wrapped-exact from_short _ (single-exact b)
+body-exact b (suc zero) = wrapped-exact from_short _ (pair-exact b)
+body-exact b (suc (suc zero)) = known-exact Lfe
+body-exact b (suc (suc (suc n))) = as_variant-exact _ _ _ ext_config_exact (λ a. refl) ext_back
+
+-- the type of what stands behind a type
+tie : (b : Bool) (n : ℕ) (v : ElementConfig) → n < 4 → (element.body b n).Fits v → element.kind_of v ≡ n
+tie b zero (Single c s) lt fits = refl
+tie b zero (Pair c s n m) lt fits = absurd fits
+tie b zero Lfe lt fits = absurd fits
+tie b zero (Ext e) lt fits = absurd fits
+tie b (suc zero) (Single c s) lt fits = absurd fits
+tie b (suc zero) (Pair c s n m) lt fits = refl
+tie b (suc zero) Lfe lt fits = absurd fits
+tie b (suc zero) (Ext e) lt fits = absurd fits
+tie b (suc (suc zero)) v lt fits = ap element.kind_of fits
+tie b (suc (suc (suc n))) (Single c s) lt fits = absurd fits
+tie b (suc (suc (suc n))) (Pair c s k m) lt fits = absurd fits
+tie b (suc (suc (suc n))) Lfe lt fits = absurd fits
+tie b (suc (suc (suc n))) (Ext e) lt fits = omega arith
+
+element_fields-exact : (b : Bool) → IsExact (element.fields b)
+element_fields-exact b = tagged-exact element.kind_of _ _ (wrapped-exact from_short _ (bits-exact 2)) (body-exact b) (λ n v fits inner. tie b n v (let lt : n < 4 = fits.0 in lt) inner)
+
+stereo_fits : (b : Bool) (n : ℕ) → element.IsStereo b n → (element.stereo b).Fits n
+stereo_fits true n h = (h, refl)
+stereo_fits false n h = h
+
+stereo_well : (b : Bool) (n : ℕ) → (element.stereo b).Fits n → element.IsStereo b n
+stereo_well true n h = h.0
+stereo_well false n h = h
+
+element_fits : (b : Bool) (v : ElementConfig) → element.IsWellFormed b v → (element.fields b).Fits v
+element_fits b (Single c s) w = ((omega arith, refl), (((tt, refl), (tt, refl)), w))
+element_fits b (Pair c s n m) w = ((omega arith, refl), (((tt, refl), (tt, refl)), (w.0, (stereo_fits b n w.1, w.2))))
+element_fits b Lfe w = ((omega arith, refl), refl)
+element_fits b (Ext e) w = ((omega arith, refl), w)
+
+element_well : (b : Bool) (v : ElementConfig) → (element.fields b).Fits v → element.IsWellFormed b v
+element_well b (Single c s) h = h.1.1
+element_well b (Pair c s n m) h = (h.1.1.0, stereo_well b n h.1.1.1.0, h.1.1.1.1)
+element_well b Lfe h = tt
+element_well b (Ext e) h = h.1
+
+pub element_exact : (b : Bool) → IsExact (element.element b)
+element_exact b = same-exact (element.fields b) (element.element b) (element_fields-exact b) (λ v w. (element_fits b v w, refl)) (λ v h. (element_well b v h, refl)) (λ r. refl) (λ at f t bad. bad) (λ at f t bad. bad)
+
+-- ---- configurations
 
 number-exact : (n : ℕ) → IsExact (number n)
 number-exact n = wrapped-exact from_short _ (bits-exact n)
 
-fixed-exact : (n v : ℕ) → IsExact (fixed n v)
-fixed-exact n v = constant-exact not_built v (number n) (number-exact n)
+explicit-exact : (b : Bool) → IsExact (explicit b)
+explicit-exact true = checked-exact zero_refused _ (number-exact 24)
+explicit-exact false = known-exact 0
 
-core_config-exact : IsExact core_config
-core_config-exact = shaped-exact _ _ _ (both-exact _ _ (wrapped-exact from_short _ bit-exact) (λ _. wrapped-exact from_short _ bit-exact)) (λ a h. refl) (λ b h. refl)
+positions-exact : (b : Bool) → IsExact (positions b)
+positions-exact true = shaped-exact _ _ _ (both-exact _ _ (checked-exact count_refused _ (escaped-exact 5 8 16)) (λ n. times-exact n (number 5) (number-exact 5))) (λ a h. rw h.1.0 refl) (λ b h. refl)
+positions-exact false = known-exact []
+
+elements-exact : (b : Bool) → IsExact (elements b)
+elements-exact b = shaped-exact _ _ _ (both-exact _ _ (checked-exact elements_refused _ (escaped-exact 4 8 16)) (λ n. times-exact (n + 1) _ (element_exact b))) (λ a h. let k : length a.1 - 1 ≡ a.0 = omega (arith, h.1.0) in rw k refl) (λ b h. refl)
+
+no_extensions-exact : IsExact no_extensions
+no_extensions-exact = behind-exact _ _ (constant-exact not_built 0 (number 1) (number-exact 1)) (known-exact [])
 
 fields-exact : IsExact fields
-fields-exact =
-    both-exact _ _ (checked-exact rate_refused _ (number-exact 5)) (λ _.
-    both-exact _ _ (checked-exact frame_refused _ (number-exact 3)) (λ _.
-    both-exact _ _ (fixed-exact 5 1) (λ _.
-    both-exact _ _ (fixed-exact 4 0) (λ _.
-    both-exact _ _ (fixed-exact 2 0) (λ _.
-    both-exact _ _ core_config-exact (λ _. fixed-exact 1 0))))))
+fields-exact = shaped-exact _ _ _ (
+    both-exact _ _ (checked-exact rate_refused _ (number-exact 5)) (λ index. both-exact _ _ (explicit-exact (index == 31)) (λ _. both-exact _ _ (checked-exact frame_refused _ (number-exact 3)) (λ frame_index.
+    both-exact _ _ (checked-exact channel_refused _ (number-exact 5)) (λ channel_index. both-exact _ _ (positions-exact (channel_index == 0)) (λ _. both-exact _ _ (elements-exact (has_sbr frame_index)) (λ _. no_extensions-exact)))))))
+    (λ a h. refl) (λ b h. refl)
 
-steps-exact : IsExact steps
-steps-exact = shaped-exact _ _ _ fields-exact (λ a h. refl) (λ b h. refl)
+-- a value that a test lets pass, or that it stops
+passes : {A : Type 0} (b : Bool) (x : A) → (if b then None else Some x) ≡ None → b ≡ true
+passes true x e = refl
+passes false x e = absurd cc
 
--- which indices are not refused
-built_rate : (n : ℕ) → n < 28 → n ≢ 13 → n ≢ 14 → rate_refused n ≡ None
-built_rate n lt a b = rw (ne_eqb n 13 a, ne_eqb n 14 b, le-ltb 27 n (omega arith)) refl
+passed : {A : Type 0} (b : Bool) (x : A) → b ≡ true → (if b then None else Some x) ≡ None
+passed b x e = rw e refl
 
-rate_is : (n : ℕ) → rate_refused n ≡ None → (n < 28) × (n ≢ 13) × (n ≢ 14)
-rate_is n e =
-    elim (cases_eq n 13) [
-      | inl same ↦ absurd (let is : rate_refused n ≡ Some not_built = rw same refl in cc)
-      | inr a ↦ elim (cases_eq n 14) [
-        | inl same ↦ absurd (let is : rate_refused n ≡ Some not_built = rw same refl in cc)
-        | inr b ↦ elim (cases_lt 27 n) [
-          | inl lt ↦ absurd (let is : rate_refused n ≡ Some not_built = rw (ne_eqb n 13 a, ne_eqb n 14 b, lt-ltb 27 n lt) refl in cc)
-          | inr le ↦ (omega arith, a, b)
-        ]
-      ]
+stops : {A : Type 0} (b : Bool) (x : A) → (if b then Some x else None) ≡ None → b ≡ false
+stops true x e = absurd cc
+stops false x e = refl
+
+at_most : (m n : ℕ) → nat_lt m n ≡ false → n ≤ m
+at_most m n e = elim (cases_lt m n) [
+  | inl lt ↦ absurd (let never : true ≡ false = sym (lt-ltb m n lt) ∙ e in cc)
+  | inr le ↦ le
+]
+
+either : (a b : Bool) → (a || b) ≡ true → (a ≡ true) ⊎ (b ≡ true)
+either true b e = inl refl
+either false b e = inr e
+
+-- where something stands in a table
+within : {A : Type 0} (table : List (Option A)) (n : ℕ) → is_some (at_index table n) ≡ true → n < length table
+within {A} table n e =
+    elim (cases_lt n (length table)) [
+      | inl lt ↦ lt
+      | inr le ↦ absurd (let none : at_index table n ≡ None = get_or_past table n None le in let never : false ≡ true = ap is_some (sym none) ∙ e in cc)
     ]
 
-built_frame : (n : ℕ) → n < 2 → frame_refused n ≡ None
-built_frame n lt = rw (le-ltb 1 n (omega arith)) refl
+pub rate_small : (n : ℕ) → is_rate n ≡ true → n < 32
+rate_small n e = elim (either (is_some (at_index rates n)) (n == 31) e) [
+  | inl a ↦ let lt : n < 28 = within rates n a in omega arith
+  | inr b ↦ let same = eqb-true n 31 b in omega arith
+]
 
-frame_is : (n : ℕ) → frame_refused n ≡ None → n < 2
-frame_is n e =
-    elim (cases_lt 1 n) [
-      | inl lt ↦ absurd (let is : frame_refused n ≡ Some not_built = rw (lt-ltb 1 n lt) refl in cc)
-      | inr le ↦ omega arith
-    ]
+pub frame_small : (n : ℕ) → is_frame n ≡ true → n < 8
+frame_small n e = let lt : n < 5 = within frames n e in omega arith
 
-built : (n v : ℕ) → v < 2 ^ n → (fixed n v).Fits tt
-built n v lt = ((lt, refl), rw (eq-eqb v v refl) refl)
+pub channel_small : (n : ℕ) → is_channels n ≡ true → n < 32
+channel_small n e = elim (either (is_some (at_index channel_table n)) (n == 0) e) [
+  | inl a ↦ let lt : n < 14 = within channel_table n a in omega arith
+  | inr b ↦ let same = eqb-true n 0 b in omega arith
+]
+
+not_zero : (n : ℕ) → 1 ≤ n → zero_refused n ≡ None
+not_zero n le = rw (ne_eqb n 0 (λ e. omega arith)) refl
+
+is_not_zero : (n : ℕ) → zero_refused n ≡ None → 1 ≤ n
+is_not_zero zero e = absurd cc
+is_not_zero (suc n) e = omega arith
+
+explicit_fits : (b : Bool) (n : ℕ) → IsExplicit b n → (explicit b).Fits n
+explicit_fits true n h = ((h.1, refl), not_zero n h.0)
+explicit_fits false n h = h
+
+explicit_well : (b : Bool) (n : ℕ) → (explicit b).Fits n → IsExplicit b n
+explicit_well true n h = (is_not_zero n h.1, h.0.0)
+explicit_well false n h = h
+
+counted : (n : ℕ) → 1 ≤ n → n ≤ 64 → count_refused n ≡ None
+counted n some few = rw (ne_eqb n 0 (λ e. omega arith), le-ltb 64 n few) refl
+
+is_counted : (n : ℕ) → count_refused n ≡ None → (1 ≤ n) × (n ≤ 64)
+is_counted zero e = absurd cc
+is_counted (suc n) e =
+    let reason : ℕ → CfgFault = λ at. faults.TooManyChannels at in
+    let some = ne_eqb (suc n) 0 (λ h. omega arith) in
+    let few = rw some at e in
+    (omega arith, at_most 64 (suc n) (stops (nat_lt 64 (suc n)) reason few))
+
+positions_fit : (b : Bool) (ps : List ℕ) → ArePositions b ps → (positions b).Fits ps
+positions_fit true ps h = ((omega (arith, h.1), counted (length ps) h.0 h.1), (refl, all_so _ _ (λ p lt. (lt, refl)) ps h.2))
+positions_fit false ps h = h
+
+positions_well : (b : Bool) (ps : List ℕ) → (positions b).Fits ps → ArePositions b ps
+positions_well true ps h = let n = is_counted (length ps) h.0.1 in (n.0, n.1, all_so _ _ (λ p fits. fits.0) ps h.1.1)
+positions_well false ps h = h
+
+few_elements : (n : ℕ) → n ≤ 63 → elements_refused n ≡ None
+few_elements n le = rw (le-ltb 63 n le) refl
+
+are_few : (n : ℕ) → elements_refused n ≡ None → n ≤ 63
+are_few n e =
+    let reason : ℕ → CfgFault = λ at. faults.TooManyElements at in
+    at_most 63 n (stops (nat_lt 63 n) reason e)
 
 -- the well formed configurations are those of the fields
-fits_steps : (v : UsacConfig) → IsWellFormed v → steps.Fits v
-fits_steps v w =
-    let rate : v.rate_index < 32 = omega (arith, w.rate) in
-    let frame : v.frame_index < 8 = omega (arith, w.frame) in
-    (((rate, refl), built_rate v.rate_index w.rate w.rate_not_13 w.rate_not_14), (((frame, refl), built_frame v.frame_index w.frame), (built 5 1 (omega arith), (built 4 0 (omega arith), (built 2 0 (omega arith), (((tt, refl), (tt, refl)), built 1 0 (omega arith)))))))
+config_fits : (c : UsacConfig) → usac_config.Fits c → fields.Fits c
+config_fits c h =
+    let w = h.0 in (
+      ((rate_small c.rate_index w.rate, refl), passed (is_rate c.rate_index) _ w.rate),
+      (
+        explicit_fits (c.rate_index == 31) c.rate_explicit w.explicit,
+        (
+          ((frame_small c.frame_index w.frame, refl), passed (is_frame c.frame_index) _ w.frame),
+          (
+            ((channel_small c.channel_index w.channel, refl), passed (is_channels c.channel_index) _ w.channel),
+            (
+              positions_fit (c.channel_index == 0) c.positions w.positions,
+              (
+                ((omega (arith, w.few), few_elements (length c.elements - 1) (omega (arith, w.few))), (omega (arith, w.some), w.elements)),
+                (((omega arith, refl), refl), h.1),
+              ),
+            ),
+          ),
+        ),
+      ),
+    )
 
-well_formed : (v : UsacConfig) → steps.Fits v → IsWellFormed v
-well_formed v fits =
-    let r = rate_is v.rate_index fits.0.1 in
-    record { rate = r.0; rate_not_13 = r.1; rate_not_14 = r.2; frame = frame_is v.frame_index fits.1.0.1 }
+config_well : (c : UsacConfig) → fields.Fits c → usac_config.Fits c
+config_well c h =
+    let f = h.1.1.0 in
+    let channel = h.1.1.1.0 in
+    let es = h.1.1.1.1.1.0 in
+    let none : c.extensions ≡ [] = h.1.1.1.1.1.1.1 in
+    let few = are_few (length c.elements - 1) es.0.1 in (
+      record {
+        rate = passes (is_rate c.rate_index) _ h.0.1;
+        explicit = explicit_well (c.rate_index == 31) c.rate_explicit h.1.0;
+        frame = passes (is_frame c.frame_index) _ f.1;
+        channel = passes (is_channels c.channel_index) _ channel.1;
+        positions = positions_well (c.channel_index == 0) c.positions h.1.1.1.1.0;
+        some = omega (arith, es.1.0);
+        few = omega (arith, few);
+        elements = es.1.1;
+        few_extensions = omega (arith, ap (λ (xs : List ConfigExt). length xs) none);
+        extensions = rw none tt;
+      },
+      none,
+    )
 
 pub usac_config_exact : IsExact usac_config
-usac_config_exact = same-exact steps usac_config steps-exact (λ v fits. (fits_steps v fits, refl)) (λ v fits. (well_formed v fits, refl)) (λ r. refl) (λ at f t bad. bad) (λ at f t bad. bad)
+usac_config_exact = same-exact fields usac_config fields-exact (λ c h. (config_fits c h, refl)) (λ c h. (config_well c h, refl)) (λ r. refl) (λ at f t bad. bad) (λ at f t bad. bad)

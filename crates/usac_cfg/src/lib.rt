@@ -1,18 +1,25 @@
 //! Configurations of USAC streams (ISO/IEC 23003-3, UsacConfig).
 //!
-//! So far one form is built: one channel in one single channel element, without SBR and without a configuration
-//! extension. What is read is well formed and takes exactly its spelling; what is not of that form is refused at the
-//! first bit of the first field that is not.
+//! What is read is well formed and takes exactly its spelling; a text that begins with no spelling is refused at the first
+//! bit of its leftmost field at fault, and the reader stays where it was. A write puts exactly the spelling, or nothing.
+//! So far a configuration extension is refused as a form that is not built.
 #![tactic(auto)]
 
-mod core_config;
+mod config_ext;
+mod copying;
+mod element_config;
+mod ext_config;
 mod faults;
 mod format;
+mod lists;
 mod reading;
-#[cfg(test)]
-mod tests;
 mod usac_config;
+mod writing;
 
-pub use core_config::CoreConfig;
+pub use config_ext::ConfigExt;
+pub use element_config::ElementConfig;
+pub use ext_config::ExtConfig;
 pub use faults::CfgFault;
+pub use lists::{Elements, Extensions, Positions};
+pub use sbr_mps::{CoreConfig, Mps212, Residual, SbrConfig, SbrFreq, SbrLimit};
 pub use usac_config::UsacConfig;

@@ -1,83 +1,195 @@
 // The fields of a configuration, in their order.
 //
-//   usacSamplingFrequencyIndex   5   not reserved, and not the escape
-//   coreSbrFrameLengthIndex      3   0 or 1
-//   channelConfigurationIndex    5   1
-//   numElements - 1              4   0000
-//   usacElementType              2   0, a single channel element
-//   tw_mdct                      1
-//   noiseFilling                 1
-//   usacConfigExtensionPresent   1   0
-ghost use Rattle.std.specs.Prelude.{◌≡◌, ◌≤◌, ◌<◌, ◌^◌, IfOk, ◌==◌};
+//   usacSamplingFrequencyIndex   5
+//   usacSamplingFrequency        24                       where the index is 31
+//   coreSbrFrameLengthIndex      3
+//   channelConfigurationIndex    5
+//   UsacChannelConfig                                     where the index is 0
+//     numOutChannels             escapedValue(5, 8, 16)
+//     bsOutputChannelPos         5                        for each channel
+//   UsacDecoderConfig
+//     numElements - 1            escapedValue(4, 8, 16)
+//     the configuration of each element
+//   usacConfigExtensionPresent   1
+ghost use Rattle.std.specs.Prelude.{◌≡◌, ◌+◌, ◌≤◌, IfOk};
 ghost use Rattle.layout.specs.Layout.{wrapped, checked};
+ghost use Rattle.layout.specs.Times.{times};
 ghost use Rattle.layout.specs.Reading.{GivesUnless};
+ghost use Rattle.esc_value.specs.Escaped.{escaped};
 ghost use Rattle.usac_cfg.specs.Faults.{is_memory, from_short};
-ghost use Rattle.usac_cfg.specs.Spelling.{number, fixed, rate_refused, frame_refused, core_config, steps};
+ghost use Rattle.usac_cfg.specs.ElementConfig.{element};
+ghost use Rattle.usac_cfg.specs.UsacConfig.{has_sbr};
+ghost use Rattle.usac_cfg.specs.Spelling.{number, rate, explicit, frame, channel, count_refused, positions, elements_refused, elements, no_extensions, fields};
 
-use crate::core_config::CoreConfig;
+use crate::element_config::read_element;
 use crate::faults::CfgFault;
+use crate::lists::{Elements, Extensions, Positions};
 use crate::usac_config::UsacConfig;
 use bit_core::{BitReader, flag, small};
+use esc_value::Escaped;
+use std::alloc::Global;
+use tables::{channels_of, frame_of, rate_of};
 
 fn read_rate(reader: &mut BitReader) -> Result<u8, CfgFault>
-    ensures { GivesUnless is_memory (checked rate_refused (number 5)) reader.old reader.new result }
+    ensures { GivesUnless is_memory rate reader.old reader.new result }
 {
     let at = reader.at();
     let index = small(reader, 5)?;
-    if index == 13 || index == 14 || index >= 28 {
-        return Err(CfgFault::FormNotBuilt { at });
+    if rate_of(index).is_some() || index == 31 {
+        return Ok(index);
     }
-    Ok(index)
+    Err(CfgFault::RateReserved { at })
+}
+
+fn read_explicit(reader: &mut BitReader, there: bool) -> Result<u32, CfgFault>
+    ensures { GivesUnless is_memory (explicit there) reader.old reader.new result }
+{
+    if !there {
+        return Ok(0);
+    }
+    let at = reader.at();
+    let rate = reader.take(24)?;
+    if rate == 0 {
+        return Err(CfgFault::RateZero { at });
+    }
+    Ok(rate)
 }
 
 fn read_frame(reader: &mut BitReader) -> Result<u8, CfgFault>
-    ensures { GivesUnless is_memory (checked frame_refused (number 3)) reader.old reader.new result }
+    ensures { GivesUnless is_memory frame reader.old reader.new result }
 {
     let at = reader.at();
     let index = small(reader, 3)?;
-    if index >= 2 {
-        return Err(CfgFault::FormNotBuilt { at });
+    if frame_of(index).is_some() {
+        return Ok(index);
     }
-    Ok(index)
+    Err(CfgFault::FrameReserved { at })
 }
 
-/// Reads a number of n bits that has this value.
-fn read_fixed(reader: &mut BitReader, n: u32, value: u8) -> Result<(), CfgFault>
-    requires { n ≤ 8 }
-    ensures { GivesUnless is_memory (fixed n value) reader.old reader.new result }
+fn read_channel(reader: &mut BitReader) -> Result<u8, CfgFault>
+    ensures { GivesUnless is_memory channel reader.old reader.new result }
 {
     let at = reader.at();
-    if small(reader, n)? != value {
-        return Err(CfgFault::FormNotBuilt { at });
+    let index = small(reader, 5)?;
+    if channels_of(index).is_some() || index == 0 {
+        return Ok(index);
     }
-    Ok(())
+    Err(CfgFault::ChannelReserved { at })
 }
 
-fn read_core(reader: &mut BitReader) -> Result<CoreConfig, CfgFault>
-    ensures { GivesUnless is_memory core_config reader.old reader.new result }
+fn read_count(reader: &mut BitReader) -> Result<u32, CfgFault>
+    ensures { GivesUnless is_memory (checked count_refused (wrapped from_short (escaped 5 8 16))) reader.old reader.new result }
 {
-    let tw_mdct = flag(reader)?;
-    let noise_filling = flag(reader)?;
-    Ok(CoreConfig {
-        tw_mdct,
-        noise_filling,
-    })
+    let at = reader.at();
+    let count = Escaped::<5, 8, 16>::read(reader)?;
+    if count == 0 {
+        return Err(CfgFault::NoChannels { at });
+    }
+    if count > 64 {
+        return Err(CfgFault::TooManyChannels { at });
+    }
+    Ok(count)
+}
+
+fn read_each_position(
+    alloc: Global,
+    reader: &mut BitReader,
+    count: u32,
+) -> Result<Positions, CfgFault>
+    ensures { GivesUnless is_memory (times count (number 5)) reader.old reader.new result }
+{
+    let mut positions = Positions::new(alloc);
+    for _ in 0..count {
+        let position = small(reader, 5)?;
+        positions.push(position)?;
+    }
+    Ok(positions)
+}
+
+fn read_positions(alloc: Global, reader: &mut BitReader, there: bool) -> Result<Positions, CfgFault>
+    ensures { GivesUnless is_memory (positions there) reader.old reader.new result }
+{
+    if !there {
+        return Ok(Positions::new(alloc));
+    }
+    let count = read_count(reader)?;
+    read_each_position(alloc, reader, count)
+}
+
+/// Reads one less than the number of elements.
+fn read_element_count(reader: &mut BitReader) -> Result<u32, CfgFault>
+    ensures gives { GivesUnless is_memory (checked elements_refused (wrapped from_short (escaped 4 8 16))) reader.old reader.new result }
+    ensures few { IfOk result (λ n. n ≤ 63) }
+{
+    let at = reader.at();
+    let less = Escaped::<4, 8, 16>::read(reader)?;
+    if less > 63 {
+        return Err(CfgFault::TooManyElements { at });
+    }
+    Ok(less)
+}
+
+fn read_each_element(
+    alloc: Global,
+    reader: &mut BitReader,
+    count: u32,
+    sbr: bool,
+) -> Result<Elements, CfgFault>
+    ensures { GivesUnless is_memory (times count (element sbr)) reader.old reader.new result }
+{
+    let mut elements = Elements::new(alloc);
+    for _ in 0..count {
+        let item = read_element(alloc, reader, sbr)?;
+        elements.push(item)?;
+    }
+    Ok(elements)
+}
+
+fn read_elements(alloc: Global, reader: &mut BitReader, sbr: bool) -> Result<Elements, CfgFault>
+    ensures { GivesUnless is_memory (elements sbr) reader.old reader.new result }
+{
+    let less = read_element_count(reader)?;
+    read_each_element(alloc, reader, less + 1, sbr)
+}
+
+fn read_extensions(alloc: Global, reader: &mut BitReader) -> Result<Extensions, CfgFault>
+    ensures { GivesUnless is_memory no_extensions reader.old reader.new result }
+{
+    let at = reader.at();
+    if small(reader, 1)? != 0 {
+        return Err(CfgFault::FormNotBuilt { at });
+    }
+    Ok(Extensions::new(alloc))
+}
+
+/// Whether frames of this length are made with SBR.
+pub fn goes_with_sbr(frame_index: u8) -> bool
+    ensures { result ≡ has_sbr frame_index }
+{
+    match frame_of(frame_index) {
+        Some(shape) => shape.ratio > 0,
+        None => false,
+    }
 }
 
 /// Reads a configuration. A refusal may stand behind some of its fields.
-pub fn read_fields(reader: &mut BitReader) -> Result<UsacConfig, CfgFault>
-    ensures { GivesUnless is_memory steps reader.old reader.new result }
+pub fn read_fields(alloc: Global, reader: &mut BitReader) -> Result<UsacConfig, CfgFault>
+    ensures { GivesUnless is_memory fields reader.old reader.new result }
 {
     let rate_index = read_rate(reader)?;
+    let rate_explicit = read_explicit(reader, rate_index == 31)?;
     let frame_index = read_frame(reader)?;
-    read_fixed(reader, 5, 1)?;
-    read_fixed(reader, 4, 0)?;
-    read_fixed(reader, 2, 0)?;
-    let core = read_core(reader)?;
-    read_fixed(reader, 1, 0)?;
+    let channel_index = read_channel(reader)?;
+    let positions = read_positions(alloc, reader, channel_index == 0)?;
+    let elements = read_elements(alloc, reader, goes_with_sbr(frame_index))?;
+    let extensions = read_extensions(alloc, reader)?;
     Ok(UsacConfig {
         rate_index,
+        rate_explicit,
         frame_index,
-        core,
+        channel_index,
+        positions,
+        elements,
+        extensions,
     })
 }

@@ -1,0 +1,12 @@
+use Rattle.std.proofs.Common.{◌≡◌, ◌-◌, ◌≤◌}
+use Rattle.layout.specs.Times.{times_read}
+use Rattle.layout.proofs.Counted.{with_front}
+use Rattle.usac_cfg.specs.ElementConfig.{element}
+use Rattle.usac_cfg.proofs.reading.read_each_element.Given as goal
+
+abbrev pub invariant-loop : goal.invariant-loop
+invariant-loop l = record {
+  so_far : with_front l.elements (times_read (element l.sbr) (l.count - l.counter) l.reader) ≡ times_read (element l.sbr) l.count l.fn.reader;
+  same_text : l.reader.text ≡ l.fn.reader.text;
+  onwards : l.fn.reader.at ≤ l.reader.at;
+}
