@@ -24,4 +24,3 @@ is_memory (faults.ChannelReserved at) = false
 is_memory (faults.NoChannels at) = false
 is_memory (faults.TooManyChannels at) = false
 is_memory (faults.TooManyElements at) = false
-is_memory (faults.FormNotBuilt at) = false

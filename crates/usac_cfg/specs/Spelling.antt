@@ -1,20 +1,17 @@
 -- How a configuration is spelled, field by field (ISO/IEC 23003-3, UsacConfig).
 use Rattle.std.specs.Prelude.{◌≡◌, ℕ, ◌+◌, ◌-◌, Bool, true, false, List, [], length, Option, Some, None, nat_lt, ◌==◌, if◌then◌else◌}
-use Rattle.layout.specs.Layout.{Layout, both, shaped, wrapped, checked, constant, known, behind}
+use Rattle.layout.specs.Layout.{Layout, both, shaped, wrapped, checked, known}
 use Rattle.layout.specs.Times.{times}
 use Rattle.bit_core.specs.Plain.{bits}
 use Rattle.esc_value.specs.Escaped.{escaped}
 use Rattle.usac_cfg.specs.declared.usac_config.UsacConfig.{UsacConfig}
-use Rattle.usac_cfg.specs.declared.config_ext.ConfigExt.{ConfigExt}
 use Rattle.usac_cfg.specs.declared.element_config.ElementConfig.{ElementConfig}
 use Rattle.usac_cfg.specs.declared.faults.CfgFault.{CfgFault}
 use Rattle.usac_cfg.specs.declared.faults.CfgFault.TheVariants as faults
 use Rattle.usac_cfg.specs.Faults.{from_short}
 use Rattle.usac_cfg.specs.ElementConfig.{element}
+use Rattle.usac_cfg.specs.ConfigExt.{extensions}
 use Rattle.usac_cfg.specs.UsacConfig.{IsWellFormed, is_rate, is_frame, is_channels, has_sbr}
-
-abbrev pub not_built : ℕ → CfgFault
-not_built at = faults.FormNotBuilt at
 
 -- a number of n bits
 abbrev pub number : ℕ → Layout ℕ CfgFault
@@ -66,10 +63,6 @@ positions false = known []
 abbrev pub elements : Bool → Layout (List ElementConfig) CfgFault
 elements sbr = shaped (λ es. (length es - 1, es)) (λ x. x.1) (both (checked elements_refused (wrapped from_short (escaped 4 8 16))) (λ n. times (n + 1) (element sbr)))
 
--- usacConfigExtensionPresent: none
-abbrev pub no_extensions : Layout (List ConfigExt) CfgFault
-no_extensions = behind (constant not_built 0 (number 1)) (known [])
-
 abbrev pub fields : Layout UsacConfig CfgFault
 fields = shaped
     (λ v. (v.rate_index, (v.rate_explicit, (v.frame_index, (v.channel_index, (v.positions, (v.elements, v.extensions)))))))
@@ -83,12 +76,12 @@ fields = shaped
       extensions = extensions;
     })
     (both rate (λ index. both (explicit (index == 31)) (λ _. both frame (λ frame_index. both channel (λ channel_index.
-    both (positions (channel_index == 0)) (λ _. both (elements (has_sbr frame_index)) (λ _. no_extensions)))))))
+    both (positions (channel_index == 0)) (λ _. both (elements (has_sbr frame_index)) (λ _. extensions)))))))
 
--- The well formed configurations without extensions, in these fields.
+-- The well formed configurations, in these fields.
 abbrev pub usac_config : Layout UsacConfig CfgFault
 usac_config = record {
-  Fits = λ c. IsWellFormed c × (c.extensions ≡ []);
+  Fits = IsWellFormed;
   spelling = fields.spelling;
   Faults = fields.Faults;
   read = fields.read;

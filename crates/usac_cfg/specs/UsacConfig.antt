@@ -4,7 +4,7 @@ use Rattle.std.specs.List.{AllByRecursion}
 use Rattle.tables.specs.Tables.{rates, frames, channels as channel_table, at_index}
 use Rattle.tables.specs.declared.frame.FrameShape.{FrameShape}
 use Rattle.usac_cfg.specs.declared.usac_config.UsacConfig.{UsacConfig}
-use Rattle.usac_cfg.specs.declared.config_ext.ConfigExt.{ConfigExt}
+use Rattle.usac_cfg.specs.ConfigExt.{IsWellFormed as IsExtensionWellFormed}
 use Rattle.usac_cfg.specs.ElementConfig.{IsWellFormed as IsElementWellFormed}
 
 -- usacSamplingFrequencyIndex names a frequency, or says that one follows.
@@ -36,11 +36,6 @@ IsExplicit false rate = rate ≡ 0
 abbrev pub ArePositions : Bool → List ℕ → Type 0
 ArePositions true positions = (1 ≤ length positions) × (length positions ≤ 64) × AllByRecursion (λ p. p < 32) positions
 ArePositions false positions = positions ≡ []
-
-pub record IsExtensionWellFormed (v : ConfigExt) : Type 0 where
-  pub kind : v.kind ≤ 65805
-  pub length : length v.bytes ≤ 65805
-  pub bytes : AllByRecursion (λ b. b < 256) v.bytes
 
 -- Every field fits its bits, no index is reserved, and what depends on an index is there exactly where it says so.
 pub record IsWellFormed (c : UsacConfig) : Type 0 where

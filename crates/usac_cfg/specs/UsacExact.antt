@@ -1,13 +1,13 @@
 -- A configuration is read exactly.
 use Rattle.std.proofs.Common.{◌≡◌, ℕ, zero, suc, ◌+◌, ◌-◌, ◌^◌, ◌<◌, ◌≤◌, Bool, true, false, List, [], ◌∷◌, length, get_or, Option, Some, None, refl, sym, ap, subst, ◌∙◌, arith, inl, inr, add-one}
-use Rattle.std.specs.Prelude.{◌⊎◌, is_some, nat_lt, ◌==◌, ◌||◌, if◌then◌else◌}
+use Rattle.std.specs.Prelude.{◌⊎◌, is_some, unwrap_or, nat_lt, ◌==◌, ◌||◌, if◌then◌else◌}
 use Rattle.std.specs.List.{AllByRecursion}
 use Rattle.std.proofs.lemmas.Bool.{cases_lt, cases_eq, eq-eqb, ne_eqb, le-ltb, lt-ltb, eqb-true}
 use Rattle.std.proofs.lemmas.List.{get_or_past}
 use Rattle.layout.specs.Layout.{FitsOption, known, wrapped, both, where_set}
 use Rattle.layout.specs.Tagged.{FitsIn}
 use Rattle.layout.specs.Exact.{IsExact}
-use Rattle.layout.proofs.Layouts.{both-exact, shaped-exact, wrapped-exact, checked-exact, constant-exact, where_set-exact, known-exact, behind-exact, times-exact, same-exact, some_is}
+use Rattle.layout.proofs.Layouts.{both-exact, shaped-exact, wrapped-exact, checked-exact, where_set-exact, known-exact, times-exact, same-exact, some_is}
 use Rattle.layout.proofs.TaggedExact.{tagged-exact, as_variant-exact}
 use Rattle.bit_core.specs.declared.faults.ReadFault.TheVariants as reads
 use Rattle.bit_core.specs.Plain.{bits}
@@ -30,8 +30,9 @@ use Rattle.usac_cfg.specs.declared.faults.CfgFault.TheVariants as faults
 use Rattle.usac_cfg.specs.Faults.{from_short, from_read}
 use Rattle.usac_cfg.specs.ExtConfig as ext
 use Rattle.usac_cfg.specs.ElementConfig as element
+use Rattle.usac_cfg.specs.ConfigExt as config
 use Rattle.usac_cfg.specs.UsacConfig.{IsWellFormed, IsExplicit, ArePositions, is_rate, is_frame, is_channels, has_sbr}
-use Rattle.usac_cfg.specs.Spelling.{not_built, number, rate_refused, zero_refused, frame_refused, channel_refused, count_refused, elements_refused, explicit, positions, elements, no_extensions, fields, usac_config}
+use Rattle.usac_cfg.specs.Spelling.{number, rate_refused, zero_refused, frame_refused, channel_refused, count_refused, elements_refused, explicit, positions, elements, fields, usac_config}
 
 all_so : {A : Type 0} (P Q : A → Type 0) → ((x : A) → P x → Q x) → (xs : List A) → AllByRecursion P xs → AllByRecursion Q xs
 all_so P Q so [] h = tt
@@ -166,6 +167,46 @@ element_well b (Ext e) h = h.1
 pub element_exact : (b : Bool) → IsExact (element.element b)
 element_exact b = same-exact (element.fields b) (element.element b) (element_fields-exact b) (λ v w. (element_fits b v w, refl)) (λ v h. (element_well b v h, refl)) (λ r. refl) (λ at f t bad. bad) (λ at f t bad. bad)
 
+-- ---- extensions of a configuration
+
+config_fields-exact : IsExact config.fields
+config_fields-exact = shaped-exact _ _ _ (both-exact _ _ (escaped-exact 4 8 16) (λ _. both-exact _ _ (escaped-exact 4 8 16) (λ n. bytes-exact n))) (λ a h. rw h.1.1.0 refl) (λ b h. refl)
+
+config_fits : (v : ConfigExt) → config.IsWellFormed v → config.fields.Fits v
+config_fits v w = (w.kind, (w.length, (refl, all_so _ _ (λ b lt. (lt, refl)) v.bytes w.bytes)))
+
+config_well : (v : ConfigExt) → config.fields.Fits v → config.IsWellFormed v
+config_well v h = record { kind = h.0; length = h.1.0; bytes = all_so _ _ (λ b fits. fits.0) v.bytes h.1.1.1 }
+
+pub config_ext_exact : IsExact config.config_ext
+config_ext_exact = same-exact config.fields config.config_ext config_fields-exact (λ v w. (config_fits v w, refl)) (λ v h. (config_well v h, refl)) (λ r. refl) (λ at f t bad. bad) (λ at f t bad. bad)
+
+some_extensions-exact : IsExact config.some_extensions
+some_extensions-exact = shaped-exact _ _ _ (both-exact _ _ (escaped-exact 2 4 8) (λ n. times-exact (n + 1) _ config_ext_exact)) (λ a h. let k : length a.1 - 1 ≡ a.0 = omega (arith, h.1.0) in rw k refl) (λ b h. refl)
+
+abbrev flag_with : Bool → Option (List ConfigExt) → Bool × Option (List ConfigExt)
+flag_with b o = (b, o)
+
+there_back : (b : Bool) (o : Option (List ConfigExt)) → is_some o ≡ b → FitsOption config.some_extensions.Fits o → flag_with (config.is_there (unwrap_or o [])) (config.unless_empty (unwrap_or o [])) ≡ flag_with b o
+there_back b None e fits = ap (λ (x : Bool). flag_with x None) e
+there_back b (Some []) e fits = absurd (let none : 0 ≡ 0 - 1 + 1 = fits.1.0 in omega arith)
+there_back b (Some (x ∷ xs)) e fits = ap (λ (y : Bool). flag_with y (Some (x ∷ xs))) e
+
+there_again : (xs : List ConfigExt) → unwrap_or (config.unless_empty xs) [] ≡ xs
+there_again [] = refl
+there_again (x ∷ xs) = refl
+
+extensions-exact : IsExact config.extensions
+extensions-exact = shaped-exact _ _ _ (both-exact _ _ (wrapped-exact from_short _ bit-exact) (λ there. where_set-exact there _ some_extensions-exact)) (λ a h. there_back a.0 a.1 h.1.0 h.1.1) (λ b h. there_again b)
+
+extensions_fit : (xs : List ConfigExt) → length xs ≤ 274 → AllByRecursion config.IsWellFormed xs → config.extensions.Fits xs
+extensions_fit [] few h = ((tt, refl), (refl, tt))
+extensions_fit (x ∷ xs) few h = ((tt, refl), (refl, (omega (arith, few), (omega arith, h))))
+
+extensions_well : (xs : List ConfigExt) → config.extensions.Fits xs → (length xs ≤ 274) × AllByRecursion config.IsWellFormed xs
+extensions_well [] h = (omega arith, tt)
+extensions_well (x ∷ xs) h = let less : length (x ∷ xs) - 1 ≤ 273 = h.1.1.0 in (omega (arith, less), h.1.1.1.1)
+
 -- ---- configurations
 
 number-exact : (n : ℕ) → IsExact (number n)
@@ -182,13 +223,10 @@ positions-exact false = known-exact []
 elements-exact : (b : Bool) → IsExact (elements b)
 elements-exact b = shaped-exact _ _ _ (both-exact _ _ (checked-exact elements_refused _ (escaped-exact 4 8 16)) (λ n. times-exact (n + 1) _ (element_exact b))) (λ a h. let k : length a.1 - 1 ≡ a.0 = omega (arith, h.1.0) in rw k refl) (λ b h. refl)
 
-no_extensions-exact : IsExact no_extensions
-no_extensions-exact = behind-exact _ _ (constant-exact not_built 0 (number 1) (number-exact 1)) (known-exact [])
-
 fields-exact : IsExact fields
 fields-exact = shaped-exact _ _ _ (
     both-exact _ _ (checked-exact rate_refused _ (number-exact 5)) (λ index. both-exact _ _ (explicit-exact (index == 31)) (λ _. both-exact _ _ (checked-exact frame_refused _ (number-exact 3)) (λ frame_index.
-    both-exact _ _ (checked-exact channel_refused _ (number-exact 5)) (λ channel_index. both-exact _ _ (positions-exact (channel_index == 0)) (λ _. both-exact _ _ (elements-exact (has_sbr frame_index)) (λ _. no_extensions-exact)))))))
+    both-exact _ _ (checked-exact channel_refused _ (number-exact 5)) (λ channel_index. both-exact _ _ (positions-exact (channel_index == 0)) (λ _. both-exact _ _ (elements-exact (has_sbr frame_index)) (λ _. extensions-exact)))))))
     (λ a h. refl) (λ b h. refl)
 
 -- a value that a test lets pass, or that it stops
@@ -279,49 +317,45 @@ are_few n e =
     at_most 63 n (stops (nat_lt 63 n) reason e)
 
 -- the well formed configurations are those of the fields
-config_fits : (c : UsacConfig) → usac_config.Fits c → fields.Fits c
-config_fits c h =
-    let w = h.0 in (
-      ((rate_small c.rate_index w.rate, refl), passed (is_rate c.rate_index) _ w.rate),
+usac_fits : (c : UsacConfig) → IsWellFormed c → fields.Fits c
+usac_fits c w = (
+  ((rate_small c.rate_index w.rate, refl), passed (is_rate c.rate_index) _ w.rate),
+  (
+    explicit_fits (c.rate_index == 31) c.rate_explicit w.explicit,
+    (
+      ((frame_small c.frame_index w.frame, refl), passed (is_frame c.frame_index) _ w.frame),
       (
-        explicit_fits (c.rate_index == 31) c.rate_explicit w.explicit,
+        ((channel_small c.channel_index w.channel, refl), passed (is_channels c.channel_index) _ w.channel),
         (
-          ((frame_small c.frame_index w.frame, refl), passed (is_frame c.frame_index) _ w.frame),
+          positions_fit (c.channel_index == 0) c.positions w.positions,
           (
-            ((channel_small c.channel_index w.channel, refl), passed (is_channels c.channel_index) _ w.channel),
-            (
-              positions_fit (c.channel_index == 0) c.positions w.positions,
-              (
-                ((omega (arith, w.few), few_elements (length c.elements - 1) (omega (arith, w.few))), (omega (arith, w.some), w.elements)),
-                (((omega arith, refl), refl), h.1),
-              ),
-            ),
+            ((omega (arith, w.few), few_elements (length c.elements - 1) (omega (arith, w.few))), (omega (arith, w.some), w.elements)),
+            extensions_fit c.extensions w.few_extensions w.extensions,
           ),
         ),
       ),
-    )
+    ),
+  ),
+)
 
-config_well : (c : UsacConfig) → fields.Fits c → usac_config.Fits c
-config_well c h =
-    let f = h.1.1.0 in
+usac_well : (c : UsacConfig) → fields.Fits c → IsWellFormed c
+usac_well c h =
     let channel = h.1.1.1.0 in
     let es = h.1.1.1.1.1.0 in
-    let none : c.extensions ≡ [] = h.1.1.1.1.1.1.1 in
-    let few = are_few (length c.elements - 1) es.0.1 in (
-      record {
-        rate = passes (is_rate c.rate_index) _ h.0.1;
-        explicit = explicit_well (c.rate_index == 31) c.rate_explicit h.1.0;
-        frame = passes (is_frame c.frame_index) _ f.1;
-        channel = passes (is_channels c.channel_index) _ channel.1;
-        positions = positions_well (c.channel_index == 0) c.positions h.1.1.1.1.0;
-        some = omega (arith, es.1.0);
-        few = omega (arith, few);
-        elements = es.1.1;
-        few_extensions = omega (arith, ap (λ (xs : List ConfigExt). length xs) none);
-        extensions = rw none tt;
-      },
-      none,
-    )
+    let few = are_few (length c.elements - 1) es.0.1 in
+    let more = extensions_well c.extensions h.1.1.1.1.1.1 in
+    record {
+      rate = passes (is_rate c.rate_index) _ h.0.1;
+      explicit = explicit_well (c.rate_index == 31) c.rate_explicit h.1.0;
+      frame = passes (is_frame c.frame_index) _ h.1.1.0.1;
+      channel = passes (is_channels c.channel_index) _ channel.1;
+      positions = positions_well (c.channel_index == 0) c.positions h.1.1.1.1.0;
+      some = omega (arith, es.1.0);
+      few = omega (arith, few);
+      elements = es.1.1;
+      few_extensions = more.0;
+      extensions = more.1;
+    }
 
 pub usac_config_exact : IsExact usac_config
-usac_config_exact = same-exact fields usac_config fields-exact (λ c h. (config_fits c h, refl)) (λ c h. (config_well c h, refl)) (λ r. refl) (λ at f t bad. bad) (λ at f t bad. bad)
+usac_config_exact = same-exact fields usac_config fields-exact (λ c w. (usac_fits c w, refl)) (λ c h. (usac_well c h, refl)) (λ r. refl) (λ at f t bad. bad) (λ at f t bad. bad)

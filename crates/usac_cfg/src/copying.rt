@@ -4,7 +4,6 @@ ghost use Rattle.std.specs.Prelude.{◌≡◌, IfOk};
 use crate::config_ext::ConfigExt;
 use crate::element_config::ElementConfig;
 use crate::lists::{Elements, Extensions};
-use bit_core::Octets;
 use std::alloc::{AllocError, Global};
 
 pub fn copy_elements(alloc: Global, elements: &[ElementConfig]) -> Result<Elements, AllocError>
@@ -16,19 +15,6 @@ pub fn copy_elements(alloc: Global, elements: &[ElementConfig]) -> Result<Elemen
         copied.push(one)?;
     }
     Ok(copied)
-}
-
-impl ConfigExt {
-    /// A copy. The one error is want of memory.
-    pub fn copy(&self, alloc: Global) -> Result<ConfigExt, AllocError>
-        ensures { IfOk result (λ copied. copied ≡ self.now) }
-    {
-        let bytes = Octets::copy_of(alloc, self.bytes.as_slice())?;
-        Ok(ConfigExt {
-            kind: self.kind,
-            bytes,
-        })
-    }
 }
 
 pub fn copy_extensions(alloc: Global, extensions: &[ConfigExt]) -> Result<Extensions, AllocError>

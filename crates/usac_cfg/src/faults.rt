@@ -32,9 +32,6 @@ pub enum CfgFault {
     /// There are more than 64 elements. The field is numElements, less one.
     #[error("too many elements")]
     TooManyElements { at: u64 },
-    /// usacConfigExtensionPresent is 1.
-    #[error("form not built")]
-    FormNotBuilt { at: u64 },
     /// There was no memory.
     #[error("out of memory")]
     Memory(AllocError),

@@ -2,7 +2,6 @@
 //!
 //! What is read is well formed and takes exactly its spelling; a text that begins with no spelling is refused at the first
 //! bit of its leftmost field at fault, and the reader stays where it was. A write puts exactly the spelling, or nothing.
-//! So far a configuration extension is refused as a form that is not built.
 #![tactic(auto)]
 
 mod config_ext;

@@ -11,6 +11,9 @@
 //     numElements - 1            escapedValue(4, 8, 16)
 //     the configuration of each element
 //   usacConfigExtensionPresent   1
+//   UsacConfigExtension                                   where that is 1
+//     numConfigExtensions - 1    escapedValue(2, 4, 8)
+//     each extension
 ghost use Rattle.std.specs.Prelude.{◌≡◌, ◌+◌, ◌≤◌, IfOk};
 ghost use Rattle.layout.specs.Layout.{wrapped, checked};
 ghost use Rattle.layout.specs.Times.{times};
@@ -19,8 +22,10 @@ ghost use Rattle.esc_value.specs.Escaped.{escaped};
 ghost use Rattle.usac_cfg.specs.Faults.{is_memory, from_short};
 ghost use Rattle.usac_cfg.specs.ElementConfig.{element};
 ghost use Rattle.usac_cfg.specs.UsacConfig.{has_sbr};
-ghost use Rattle.usac_cfg.specs.Spelling.{number, rate, explicit, frame, channel, count_refused, positions, elements_refused, elements, no_extensions, fields};
+ghost use Rattle.usac_cfg.specs.Spelling.{number, rate, explicit, frame, channel, count_refused, positions, elements_refused, elements, fields};
+ghost use Rattle.usac_cfg.specs.ConfigExt.{config_ext, some_extensions, extensions};
 
+use crate::config_ext::read_extension;
 use crate::element_config::read_element;
 use crate::faults::CfgFault;
 use crate::lists::{Elements, Extensions, Positions};
@@ -152,14 +157,36 @@ fn read_elements(alloc: Global, reader: &mut BitReader, sbr: bool) -> Result<Ele
     read_each_element(alloc, reader, less + 1, sbr)
 }
 
-fn read_extensions(alloc: Global, reader: &mut BitReader) -> Result<Extensions, CfgFault>
-    ensures { GivesUnless is_memory no_extensions reader.old reader.new result }
+fn read_each_extension(
+    alloc: Global,
+    reader: &mut BitReader,
+    count: u32,
+) -> Result<Extensions, CfgFault>
+    ensures { GivesUnless is_memory (times count config_ext) reader.old reader.new result }
 {
-    let at = reader.at();
-    if small(reader, 1)? != 0 {
-        return Err(CfgFault::FormNotBuilt { at });
+    let mut extensions = Extensions::new(alloc);
+    for _ in 0..count {
+        let item = read_extension(alloc, reader)?;
+        extensions.push(item)?;
     }
-    Ok(Extensions::new(alloc))
+    Ok(extensions)
+}
+
+fn read_some_extensions(alloc: Global, reader: &mut BitReader) -> Result<Extensions, CfgFault>
+    ensures { GivesUnless is_memory some_extensions reader.old reader.new result }
+{
+    let less = Escaped::<2, 4, 8>::read(reader)?;
+    read_each_extension(alloc, reader, less + 1)
+}
+
+fn read_extensions(alloc: Global, reader: &mut BitReader) -> Result<Extensions, CfgFault>
+    ensures { GivesUnless is_memory extensions reader.old reader.new result }
+{
+    if flag(reader)? {
+        read_some_extensions(alloc, reader)
+    } else {
+        Ok(Extensions::new(alloc))
+    }
 }
 
 /// Whether frames of this length are made with SBR.

@@ -63,13 +63,12 @@ impl UsacConfig {
         }
     }
 
-    /// Writes a well formed configuration without extensions.
+    /// Writes a well formed configuration.
     ///
     /// Errors: want of memory; nothing is written.
     #[tactic(auto, using(bit_core::proofs::Writing::extends_cut, bit_core::proofs::Writing::extends_long))]
     pub fn write(&self, writer: &mut BitWriter) -> Result<(), AllocError>
-        requires well_formed { IsWellFormed self.now }
-        requires no_extensions { self.now.extensions ≡ [] }
+        requires { IsWellFormed self.now }
         ensures ok { OnOk result (writer.new ≡ writer.old ++ usac_config.spelling self.now) }
         ensures err { OnErr result (writer.new ≡ writer.old) }
     {

@@ -8,8 +8,10 @@ ghost use Rattle.sbr_mps.specs.SbrConfig.{sbr_config};
 ghost use Rattle.sbr_mps.specs.Mps212.{mps212_text};
 ghost use Rattle.usac_cfg.specs.ElementConfig.{IsWellFormed as IsElementWellFormed, HasSbr, HasMps, IsStereo, stereo, element};
 ghost use Rattle.usac_cfg.specs.UsacConfig.{IsWellFormed, IsExplicit, ArePositions, has_sbr};
+ghost use Rattle.usac_cfg.specs.ConfigExt.{IsWellFormed as IsExtensionWellFormed, config_ext, extensions};
 ghost use Rattle.usac_cfg.specs.Spelling.{explicit, positions, elements, fields};
 
+use crate::config_ext::{ConfigExt, write_extension};
 use crate::element_config::ElementConfig;
 use crate::ext_config::write_ext;
 use crate::reading::goes_with_sbr;
@@ -156,10 +158,34 @@ fn write_elements(
     write_each_element(has_sbr, values, writer)
 }
 
-/// Writes a configuration without extensions.
+fn write_each_extension(values: &[ConfigExt], writer: &mut BitWriter) -> Result<(), AllocError>
+    requires { AllByRecursion IsExtensionWellFormed values.now }
+    ensures ok { OnOk result (writer.new ≡ writer.old ++ flat_map config_ext.spelling values.now) }
+    ensures kept { Extends writer.old writer.new }
+{
+    for value in values {
+        write_extension(value, writer)?;
+    }
+    Ok(())
+}
+
+fn write_extensions(values: &[ConfigExt], writer: &mut BitWriter) -> Result<(), AllocError>
+    requires few { length values.now ≤ 274 }
+    requires fit { AllByRecursion IsExtensionWellFormed values.now }
+    ensures ok { OnOk result (writer.new ≡ writer.old ++ extensions.spelling values.now) }
+    ensures kept { Extends writer.old writer.new }
+{
+    if values.is_empty() {
+        return writer.put_flag(false);
+    }
+    writer.put_flag(true)?;
+    Escaped::<2, 4, 8>::put(values.len() as u32 - 1, writer)?;
+    write_each_extension(values, writer)
+}
+
+/// Writes a configuration.
 pub fn write_fields(value: &UsacConfig, writer: &mut BitWriter) -> Result<(), AllocError>
-    requires well_formed { IsWellFormed value.now }
-    requires no_extensions { value.now.extensions ≡ [] }
+    requires { IsWellFormed value.now }
     ensures ok { OnOk result (writer.new ≡ writer.old ++ fields.spelling value.now) }
     ensures kept { Extends writer.old writer.new }
 {
@@ -167,9 +193,13 @@ pub fn write_fields(value: &UsacConfig, writer: &mut BitWriter) -> Result<(), Al
     write_explicit(value.rate_index == 31, value.rate_explicit, writer)?;
     put_small(writer, value.frame_index, 3)?;
     put_small(writer, value.channel_index, 5)?;
-    write_positions(value.channel_index == 0, value.positions.as_slice(), writer)?;
+    write_positions(
+        value.channel_index == 0,
+        value.positions.as_slice(),
+        writer,
+    )?;
     let has_sbr = goes_with_sbr(value.frame_index);
     write_elements(has_sbr, value.elements.as_slice(), writer)?;
-    writer.put(0, 1)?;
+    write_extensions(value.extensions.as_slice(), writer)?;
     Ok(())
 }
