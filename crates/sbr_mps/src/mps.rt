@@ -9,7 +9,7 @@
 //   bsResidualBands          5   these two where stereoConfigIndex is 2 or 3
 //   bsPseudoLr               1
 //   bsEnvQuantMode           1   where bsTempShapeConfig is 2
-ghost use Rattle.std.specs.Prelude.{◌≡◌, ◌<◌, ◌++◌, ◌==◌, OnOk, OnErr};
+ghost use Rattle.std.specs.Prelude.{◌≡◌, ◌<◌, ◌++◌, ◌==◌, ◌↔◌, IsTrue, is_some, OnOk, OnErr};
 ghost use Rattle.layout.specs.Layout.{where_set, FitsOption, spelling_of};
 ghost use Rattle.layout.specs.Reading.{Gives, Reads};
 ghost use Rattle.bit_core.specs.Plain.{bits, bit};
@@ -77,6 +77,26 @@ impl Mps212 {
         }
     }
 
+    /// Whether each number fits in its bits, and `env_quant` is there exactly where `temp_shape` is 2.
+    pub fn is_well_formed(&self) -> bool
+        ensures { IsTrue result ↔ IsWellFormed self.now }
+    {
+        self.freq_res < 8
+            && self.fixed_gain < 8
+            && self.temp_shape < 4
+            && self.decorr < 4
+            && fits_phase(self.ott_phase)
+            && fits_residual(self.residual)
+            && self.env_quant.is_some() == (self.temp_shape == 2)
+    }
+
+    /// Whether the residual is there exactly where it goes with this `stereoConfigIndex`.
+    pub fn goes_with(&self, stereo: u8) -> bool
+        ensures { IsTrue result ↔ (is_some self.now.residual ≡ has_residual stereo) }
+    {
+        self.residual.is_some() == goes_with_residual(stereo)
+    }
+
     /// Writes well formed settings.
     ///
     /// Errors: want of memory; nothing is written.
@@ -94,6 +114,24 @@ impl Mps212 {
                 Err(fault)
             }
         }
+    }
+}
+
+fn fits_phase(there: Option<u8>) -> bool
+    ensures { IsTrue result ↔ FitsOption (λ p. p < 32) there }
+{
+    match there {
+        Some(value) => value < 32,
+        None => true,
+    }
+}
+
+fn fits_residual(there: Option<Residual>) -> bool
+    ensures { IsTrue result ↔ FitsOption IsResidualWellFormed there }
+{
+    match there {
+        Some(value) => value.bands < 32,
+        None => true,
     }
 }
 

@@ -13,7 +13,7 @@
 //     dflt_limiter_gains   2
 //     dflt_interpol_freq   1
 //     dflt_smoothing_mode  1
-ghost use Rattle.std.specs.Prelude.{◌≡◌, ◌++◌, OnOk, OnErr};
+ghost use Rattle.std.specs.Prelude.{◌≡◌, ◌++◌, ◌↔◌, IsTrue, OnOk, OnErr};
 ghost use Rattle.layout.specs.Layout.{where_set, FitsOption, spelling_of};
 ghost use Rattle.layout.specs.Reading.{Gives, Reads};
 ghost use Rattle.bit_core.specs.Writer.{Extends};
@@ -92,6 +92,13 @@ impl SbrConfig {
         }
     }
 
+    /// Whether each number fits in its bits.
+    pub fn is_well_formed(&self) -> bool
+        ensures { IsTrue result ↔ IsWellFormed self.now }
+    {
+        self.start < 16 && self.stop < 16 && fits_freq(self.extra1) && fits_limit(self.extra2)
+    }
+
     /// Writes well formed settings.
     ///
     /// Errors: want of memory; nothing is written.
@@ -109,6 +116,24 @@ impl SbrConfig {
                 Err(fault)
             }
         }
+    }
+}
+
+fn fits_freq(there: Option<SbrFreq>) -> bool
+    ensures { IsTrue result ↔ FitsOption IsFreqWellFormed there }
+{
+    match there {
+        Some(value) => value.scale < 4 && value.noise_bands < 4,
+        None => true,
+    }
+}
+
+fn fits_limit(there: Option<SbrLimit>) -> bool
+    ensures { IsTrue result ↔ FitsOption IsLimitWellFormed there }
+{
+    match there {
+        Some(value) => value.bands < 4 && value.gains < 4,
+        None => true,
     }
 }
 

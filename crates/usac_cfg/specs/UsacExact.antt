@@ -31,7 +31,7 @@ use Rattle.usac_cfg.specs.Faults.{from_short, from_read}
 use Rattle.usac_cfg.specs.ExtConfig as ext
 use Rattle.usac_cfg.specs.ElementConfig as element
 use Rattle.usac_cfg.specs.ConfigExt as config
-use Rattle.usac_cfg.specs.UsacConfig.{IsWellFormed, IsExplicit, ArePositions, is_rate, is_frame, is_channels, has_sbr}
+use Rattle.usac_cfg.specs.UsacConfig.{IsWellFormed, HasIndices, HasLists, IsExplicit, ArePositions, is_rate, is_frame, is_channels, has_sbr}
 use Rattle.usac_cfg.specs.Spelling.{number, rate_refused, zero_refused, frame_refused, channel_refused, count_refused, elements_refused, explicit, positions, elements, fields, usac_config}
 
 all_so : {A : Type 0} (P Q : A → Type 0) → ((x : A) → P x → Q x) → (xs : List A) → AllByRecursion P xs → AllByRecursion Q xs
@@ -319,18 +319,18 @@ are_few n e =
 -- the well formed configurations are those of the fields
 usac_fits : (c : UsacConfig) → IsWellFormed c → fields.Fits c
 usac_fits c w = (
-  ((rate_small c.rate_index w.rate, refl), passed (is_rate c.rate_index) _ w.rate),
+  ((rate_small c.rate_index w.indices.rate, refl), passed (is_rate c.rate_index) _ w.indices.rate),
   (
-    explicit_fits (c.rate_index == 31) c.rate_explicit w.explicit,
+    explicit_fits (c.rate_index == 31) c.rate_explicit w.indices.explicit,
     (
-      ((frame_small c.frame_index w.frame, refl), passed (is_frame c.frame_index) _ w.frame),
+      ((frame_small c.frame_index w.indices.frame, refl), passed (is_frame c.frame_index) _ w.indices.frame),
       (
-        ((channel_small c.channel_index w.channel, refl), passed (is_channels c.channel_index) _ w.channel),
+        ((channel_small c.channel_index w.indices.channel, refl), passed (is_channels c.channel_index) _ w.indices.channel),
         (
-          positions_fit (c.channel_index == 0) c.positions w.positions,
+          positions_fit (c.channel_index == 0) c.positions w.indices.positions,
           (
-            ((omega (arith, w.few), few_elements (length c.elements - 1) (omega (arith, w.few))), (omega (arith, w.some), w.elements)),
-            extensions_fit c.extensions w.few_extensions w.extensions,
+            ((omega (arith, w.lists.few), few_elements (length c.elements - 1) (omega (arith, w.lists.few))), (omega (arith, w.lists.some), w.lists.elements)),
+            extensions_fit c.extensions w.lists.few_extensions w.lists.extensions,
           ),
         ),
       ),
@@ -344,18 +344,21 @@ usac_well c h =
     let es = h.1.1.1.1.1.0 in
     let few = are_few (length c.elements - 1) es.0.1 in
     let more = extensions_well c.extensions h.1.1.1.1.1.1 in
-    record {
+    let indices : HasIndices c = record {
       rate = passes (is_rate c.rate_index) _ h.0.1;
       explicit = explicit_well (c.rate_index == 31) c.rate_explicit h.1.0;
       frame = passes (is_frame c.frame_index) _ h.1.1.0.1;
       channel = passes (is_channels c.channel_index) _ channel.1;
       positions = positions_well (c.channel_index == 0) c.positions h.1.1.1.1.0;
+    } in
+    let lists : HasLists c = record {
       some = omega (arith, es.1.0);
       few = omega (arith, few);
       elements = es.1.1;
       few_extensions = more.0;
       extensions = more.1;
-    }
+    } in
+    record { indices = indices; lists = lists }
 
 pub usac_config_exact : IsExact usac_config
 usac_config_exact = same-exact fields usac_config fields-exact (λ c w. (usac_fits c w, refl)) (λ c h. (usac_well c h, refl)) (λ r. refl) (λ at f t bad. bad) (λ at f t bad. bad)

@@ -4,6 +4,8 @@
 //! bit of its leftmost field at fault, and the reader stays where it was. A write puts exactly the spelling, or nothing.
 #![tactic(auto)]
 
+mod checking;
+mod comparing;
 mod config_ext;
 mod copying;
 mod element_config;

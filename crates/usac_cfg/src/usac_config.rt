@@ -1,13 +1,18 @@
-ghost use Rattle.std.specs.Prelude.{◌≡◌, ◌++◌, [], OnOk, OnErr, IfOk};
+ghost use Rattle.std.specs.Prelude.{◌≡◌, ◌++◌, ◌↔◌, IsTrue, OnOk, OnErr, IfOk};
+ghost use Rattle.usac_cfg.specs.UsacConfig.{id_of, first_id, leading_of};
 
+use crate::checking::{are_positions, fit_elements, fit_extensions, is_explicit};
+use crate::comparing::{same_bytes, same_elements, same_extensions};
+use crate::config_ext::ConfigExt;
 use crate::copying::{copy_elements, copy_extensions};
+use crate::element_config::ElementConfig;
 use crate::faults::CfgFault;
 use crate::lists::{Elements, Extensions, Positions};
-use crate::reading::read_fields;
+use crate::reading::{goes_with_sbr, read_fields};
 use crate::writing::write_fields;
 use bit_core::{BitReader, BitWriter};
 use std::alloc::{AllocError, Global};
-use tables::{channels_of, frame_of};
+use tables::{channels_of, frame_of, rate_of};
 
 /// A configuration (ISO/IEC 23003-3, UsacConfig).
 ///
@@ -39,7 +44,7 @@ pub struct UsacConfig {
 }
 
 impl UsacConfig {
-    ghost use Rattle.usac_cfg.specs.UsacConfig.{IsWellFormed, ratio, frame_length, channels};
+    ghost use Rattle.usac_cfg.specs.UsacConfig.{IsWellFormed, HasIndices, HasLists, rate, ratio, frame_length, channels, stream_id, declares_preroll, leading};
     ghost use Rattle.usac_cfg.specs.Spelling.{usac_config};
     ghost use Rattle.usac_cfg.specs.Faults.{is_memory};
     ghost use Rattle.layout.specs.Reading.{GivesUnless, ReadsUnless};
@@ -132,4 +137,121 @@ impl UsacConfig {
         }
         channels_of(self.channel_index).unwrap_or(0)
     }
+
+    /// Whether every field fits its bits, no index is reserved, and what depends on an index is there exactly where it
+    /// says so.
+    pub fn is_well_formed(&self) -> bool
+        ensures { IsTrue result ↔ IsWellFormed self.now }
+    {
+        self.has_indices() && self.has_lists()
+    }
+
+    fn has_indices(&self) -> bool
+        ensures { IsTrue result ↔ HasIndices self.now }
+    {
+        (rate_of(self.rate_index).is_some() || self.rate_index == 31)
+            && is_explicit(self.rate_index == 31, self.rate_explicit)
+            && frame_of(self.frame_index).is_some()
+            && (channels_of(self.channel_index).is_some() || self.channel_index == 0)
+            && are_positions(self.channel_index == 0, self.positions.as_slice())
+    }
+
+    fn has_lists(&self) -> bool
+        ensures { IsTrue result ↔ HasLists self.now }
+    {
+        let sbr = goes_with_sbr(self.frame_index);
+        let elements = self.elements.as_slice();
+        let extensions = self.extensions.as_slice();
+        !elements.is_empty()
+            && elements.len() <= 64
+            && fit_elements(sbr, elements)
+            && extensions.len() <= 274
+            && fit_extensions(extensions)
+    }
+
+    /// The rate of the decoder's output, in Hz.
+    pub fn rate(&self) -> u32
+        requires { IsWellFormed self.now }
+        ensures { result ≡ rate self.now }
+    {
+        if self.rate_index == 31 {
+            return self.rate_explicit;
+        }
+        rate_of(self.rate_index).unwrap_or(0)
+    }
+
+    /// The identifier of the stream (`ID_CONFIG_EXT_STREAM_ID`): that of the first extension of type 7 which has exactly
+    /// two bytes. `None` exactly where there is none.
+    pub fn stream_id(&self) -> Option<u16>
+        ensures { result ≡ stream_id self.now }
+    {
+        first_id(self.extensions.as_slice())
+    }
+
+    /// Whether element 0 is an extension element of type 3 (`ID_EXT_ELE_AUDIOPREROLL`).
+    pub fn declares_preroll(&self) -> bool
+        ensures { result ≡ declares_preroll self.now }
+    {
+        match self.elements.get(0) {
+            Some(ElementConfig::Ext(ext)) => ext.kind == 3,
+            _ => false,
+        }
+    }
+
+    /// How many extension elements stand before the first other element.
+    pub fn leading(&self) -> u64
+        ensures { result ≡ leading self.now }
+    {
+        leading_in(self.elements.as_slice())
+    }
+
+    /// Whether the two are equal. Well formed configurations are equal exactly where their spellings are.
+    pub fn same(&self, other: &UsacConfig) -> bool
+        ensures { IsTrue result ↔ (self.now ≡ other.now) }
+    {
+        self.rate_index == other.rate_index
+            && self.rate_explicit == other.rate_explicit
+            && self.frame_index == other.frame_index
+            && self.channel_index == other.channel_index
+            && same_bytes(self.positions.as_slice(), other.positions.as_slice())
+            && same_elements(self.elements.as_slice(), other.elements.as_slice())
+            && same_extensions(self.extensions.as_slice(), other.extensions.as_slice())
+    }
+}
+
+fn id_in(extension: &ConfigExt) -> Option<u16>
+    ensures { result ≡ id_of extension.now }
+{
+    if extension.kind != 7 {
+        return None;
+    }
+    match extension.bytes.as_slice() {
+        [high, low] => Some(256 * u16::from(*high) + u16::from(*low)),
+        _ => None,
+    }
+}
+
+fn first_id(extensions: &[ConfigExt]) -> Option<u16>
+    ensures { result ≡ first_id extensions.now }
+{
+    for extension in extensions {
+        let id = id_in(extension);
+        if id.is_some() {
+            return id;
+        }
+    }
+    None
+}
+
+fn leading_in(elements: &[ElementConfig]) -> u64
+    ensures { result ≡ leading_of elements.now }
+{
+    let mut count: u64 = 0;
+    for element in elements {
+        match element {
+            ElementConfig::Ext(_) => count += 1,
+            _ => return count,
+        }
+    }
+    count
 }

@@ -193,11 +193,7 @@ pub fn write_fields(value: &UsacConfig, writer: &mut BitWriter) -> Result<(), Al
     write_explicit(value.rate_index == 31, value.rate_explicit, writer)?;
     put_small(writer, value.frame_index, 3)?;
     put_small(writer, value.channel_index, 5)?;
-    write_positions(
-        value.channel_index == 0,
-        value.positions.as_slice(),
-        writer,
-    )?;
+    write_positions(value.channel_index == 0, value.positions.as_slice(), writer)?;
     let has_sbr = goes_with_sbr(value.frame_index);
     write_elements(has_sbr, value.elements.as_slice(), writer)?;
     write_extensions(value.extensions.as_slice(), writer)?;
