@@ -544,7 +544,7 @@ times-open {A} {F} (suc n) H h =
       ];
     }
 
-not_free : (b : Bool) → (b ≡ false → ⊥) → b ≡ true
+pub not_free : (b : Bool) → (b ≡ false → ⊥) → b ≡ true
 not_free true h = refl
 not_free false h = absurd (h refl)
 

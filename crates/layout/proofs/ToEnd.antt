@@ -1,14 +1,15 @@
 -- Layouts that take all of a text.
-use Rattle.std.proofs.Common.{◌≡◌, ℕ, ◌+◌, ◌<◌, ◌≤◌, Bool, List, ◌++◌, length, take, drop, Result, Ok, Err, refl, sym, ap, subst, ◌∙◌, arith, inl, inr}
-use Rattle.std.specs.Prelude.{◌⊎◌}
+use Rattle.std.proofs.Common.{◌≡◌, ℕ, ◌+◌, ◌<◌, ◌≤◌, Bool, true, false, List, ◌++◌, length, take, drop, Result, Ok, Err, refl, sym, ap, subst, ◌∙◌, arith, inl, inr}
+use Rattle.std.specs.Prelude.{◌⊎◌, OnErr, IfErr}
 use Rattle.std.proofs.lemmas.Bool.{cases_lt, le-ltb, lt-ltb}
 use Rattle.std.proofs.lemmas.List.{length-append, length-take, take-append-drop, drop-take, take_at}
 use Rattle.layout.specs.Exact.{IsExact, IsExactToEnd}
-use Rattle.layout.specs.Layout.{◌>>=◌, Layout, both}
+use Rattle.layout.specs.Layout.{◌>>=◌, Layout, both, shaped}
 use Rattle.layout.specs.Reader.{Reader, left, moved}
 use Rattle.layout.specs.Laws.{Begins, IsDecided}
+use Rattle.layout.specs.Reading.{GivesUnless, ReadsAllUnless}
 use Rattle.layout.specs.ToEnd.{rest, tail, tail_read, inside, inside_read, window, back_out}
-use Rattle.layout.proofs.Layouts.{bind_ok, bind_err, done, failed, ok_is, err_is, left_moved, moved_twice}
+use Rattle.layout.proofs.Layouts.{bind_ok, bind_err, done, failed, ok_is, err_is, left_moved, moved_twice, not_free}
 
 pub rest-to_end : {F : Type 0} → IsExactToEnd (rest {F = F})
 rest-to_end {F} = record {
@@ -60,6 +61,63 @@ both-to_end {A} {B} {F} H K h k = record {
             rw (first, (k w.0).only (moved r (length s0)) f there) refl
       ];
 }
+
+pub shaped-to_end : {A B F : Type 0} (parts : B → A) (made : A → B) (H : Layout A F) → IsExactToEnd H → ((a : A) → H.Fits a → parts (made a) ≡ a) → ((b : B) → H.Fits (parts b) → made (parts b) ≡ b) → IsExactToEnd (shaped parts made H)
+shaped-to_end {A} {B} {F} parts made H h back there = record {
+  takes = λ r s v e.
+      let a = bind_ok (H.read r) (λ x. Ok (made x.0, x.1)) (v, s) e in
+      let t = h.takes r a.0.1 a.0.0 a.1 in
+      let made_is : B × Reader = (made a.0.0, a.0.1) in
+      let L = shaped parts made H in
+      subst (λ (y : B × Reader). L.Fits y.0 × (left r ≡ L.spelling y.0) × (y.1 ≡ moved r (length (L.spelling y.0)))) (ok_is {F = F} made_is (v, s) a.2)
+      (rw (back a.0.0 t.0) t);
+  again = λ r v fits e. rw (h.again r (parts v) fits e, there v fits) refl;
+  blames = λ r f e.
+      elim (bind_err (H.read r) (λ x. Ok (made x.0, x.1)) f e) [
+        | inl bad ↦ h.blames r f bad
+        | inr a ↦ absurd (let never = a.2 in cc)
+      ];
+  only = λ r f bad. rw (h.only r f bad) refl;
+}
+
+-- the same layout in other words
+pub same-to_end : {A F : Type 0} (L M : Layout A F) → IsExactToEnd L → ((v : A) → M.Fits v → L.Fits v × (M.spelling v ≡ L.spelling v)) → ((v : A) → L.Fits v → M.Fits v × (M.spelling v ≡ L.spelling v)) → ((r : Reader) → M.read r ≡ L.read r)
+    → ((at : ℕ) (f : F) (t : List Bool) → M.Faults at f t → L.Faults at f t) → ((at : ℕ) (f : F) (t : List Bool) → L.Faults at f t → M.Faults at f t) → IsExactToEnd M
+same-to_end {A} {F} L M l to from read to_fault from_fault = record {
+  takes = λ r s v e.
+      let t = l.takes r s v (sym (read r) ∙ e) in
+      let m = from v t.0 in
+      (m.0, t.1 ∙ sym m.1, t.2 ∙ ap (λ (x : List Bool). moved r (length x)) (sym m.1));
+  again = λ r v fits e.
+      let m = to v fits in
+      read r ∙ l.again r v m.0 (e ∙ m.1) ∙ ap (λ (x : List Bool). done {F = F} (v, moved r (length x))) (sym m.1);
+  blames = λ r f e. from_fault r.at f (left r) (l.blames r f (sym (read r) ∙ e));
+  only = λ r f bad. read r ∙ l.only r f (to_fault r.at f (left r) bad);
+}
+
+-- what a call that reads to the end promises
+pub reads_all_unless : {A F : Type 0} (free : F → Bool) (L : Layout A F) → IsExactToEnd L → (old new : Reader) (r : Result A F) → GivesUnless free L old new r → OnErr r (new ≡ old) → ReadsAllUnless free L old new r
+reads_all_unless {A} {F} free L l old new (Ok v) gives back = record {
+  found = l.takes old new v gives.0;
+  only = λ w fits e.
+      let p = ok_is {F = F} (v, new) (w, moved old (length (L.spelling w))) (sym gives.0 ∙ l.again old w fits e) in
+      (tt, ap (λ (x : A × Reader). x.0) p);
+  fault = tt;
+  first = λ f bad. absurd (let never = l.only old f bad in cc);
+  unchanged = tt;
+}
+reads_all_unless {A} {F} free L l old new (Err f) gives back = record {
+  found = tt;
+  only = λ w fits e. (not_free (free f) (λ h. absurd (let never = l.again old w fits e in let is = gives.0 h in cc)), tt);
+  fault = λ h. l.blames old f (gives.0 h);
+  first = λ g bad. λ h. err_is {A = A × Reader} f g (sym (gives.0 h) ∙ l.only old g bad);
+  unchanged = back;
+}
+
+pub all_unless_back : {A F : Type 0} (free : F → Bool) (L : Layout A F) → IsExactToEnd L → (old middle new : Reader) (f : F) (start : ℕ) → GivesUnless free L old middle (Err f) → start ≡ old.at → new ≡ record { text = middle.text; at = start } → ReadsAllUnless free L old new (Err f)
+all_unless_back free L l old middle new f start gives here back =
+    let same : new ≡ old = back ∙ ap (λ (n : ℕ). let m : Reader = record { text = middle.text; at = n } in m) here ∙ ap (λ (t : List Bool). let m : Reader = record { text = t; at = old.at } in m) gives.1.0 in
+    reads_all_unless free L l old new (Err f) (gives.0, (ap (λ (q : Reader). q.text) same, omega (arith, ap (λ (q : Reader). q.at) same))) same
 
 tail_fits : {F : Type 0} (too_long : ℕ → F) (n : ℕ) (r : Reader) → length (left r) ≤ n → tail_read too_long n r ≡ Ok (left r, moved r (length (left r)))
 tail_fits too_long n r le = rw (le-ltb n (length (left r)) le) refl

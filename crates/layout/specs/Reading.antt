@@ -22,6 +22,14 @@ pub record ReadsUnless {A F : Type 0} (free : F → Bool) (L : Layout A F) (old 
   pub first : (f : F) → L.Faults old.at f (left old) → IsErrAnd result (λ g. free g ≡ false → g ≡ f)
   pub unchanged : OnErr result (new ≡ old)
 
+-- The same of a reader that takes all that is left: only all of it counts as a spelling.
+pub record ReadsAllUnless {A F : Type 0} (free : F → Bool) (L : Layout A F) (old new : Reader) (result : Result A F) : Type 0 where
+  pub found : IfOk result (λ v. L.Fits v × (left old ≡ L.spelling v) × (new ≡ moved old (length (L.spelling v))))
+  pub only : (v : A) → L.Fits v → left old ≡ L.spelling v → IfErr result (λ f. free f ≡ true) × IfOk result (λ w. w ≡ v)
+  pub fault : IfErr result (λ f. free f ≡ false → L.Faults old.at f (left old))
+  pub first : (f : F) → L.Faults old.at f (left old) → IsErrAnd result (λ g. free g ≡ false → g ≡ f)
+  pub unchanged : OnErr result (new ≡ old)
+
 -- the reader is in the same text, and not before where it was
 abbrev pub IsOnwards : Reader → Reader → Type 0
 IsOnwards old new = (new.text ≡ old.text) × (old.at ≤ new.at)
