@@ -1,18 +1,18 @@
 -- The example core. It decodes no audio: the standard has no such decoder, and these sums are this
 -- project's own. They are made so that each block tells which units came before it.
-use Rattle.std.specs.Prelude.{◌≡◌, ℕ, ◌+◌, ◌*◌, ◌%◌, ◌<◌, List, [], ◌∷◌, ◌++◌, length, Option, Some, None, ℤ, Bool, All, map, take, drop, slice_index, if◌then◌else◌, replicate}
+use Rattle.std.specs.Prelude.{◌≡◌, ℕ, ◌+◌, ◌*◌, ◌%◌, ◌<◌, List, [], ◌∷◌, ◌++◌, length, Option, Some, None, ℤ, Bool, All, map, take, drop, slice_index, if◌then◌else◌, ◌==◌, replicate}
 use Rattle.std.specs.Int.{w16, cast_signed}
 use Rattle.std.specs.List.{flat_map}
 use Rattle.std.proofs.Common.{zero, suc}
 use Rattle.usac_cfg.specs.declared.usac_config.UsacConfig.{UsacConfig}
-use Rattle.usac_cfg.specs.UsacConfig.{IsWellFormed, channels, frame_length}
+use Rattle.usac_cfg.specs.UsacConfig.{IsWellFormed, ratio, channels, frame_length}
 use Rattle.core_iface.specs.Units.{UnitValue}
 use Rattle.core_iface.specs.Decoding.{Definitions}
 use Rattle.core_iface.specs.Answering.{Running, Meaning, running}
 
--- how many values of units before it a unit's block takes in, beside the context
+-- how many values of units before it a unit's block takes in, beside the context: by sbrRatioIndex
 abbrev pub warm_of : UsacConfig → ℕ
-warm_of c = 1
+warm_of c = if ratio c == 0 then 1 else if ratio c == 1 then 3 else 2
 
 -- the sum of the places of the ones, the first bit standing at place k
 abbrev pub places : ℕ → List Bool → ℕ
@@ -64,10 +64,11 @@ pub record Folded : Type 0 where
   pub ready : Option Running
   pub fed : ℕ
 
--- how a FoldCore is ready: with its configuration, if it has one, and the context before the values
+-- How a FoldCore is ready: with its configuration, if it has one, and the context before those of the
+-- values that tell.
 abbrev pub ready_with : Option UsacConfig → ℕ → List ℕ → Option Running
 ready_with None context past = None
-ready_with (Some c) context past = running c (context ∷ past)
+ready_with (Some c) context past = running c (context ∷ take (warm_of c) past)
 
 -- a FoldCore never fails
 abbrev pub meaning_of : Folded → Meaning

@@ -1,5 +1,6 @@
 ghost use Rattle.std.specs.Prelude.{◌≡◌, ◌+◌, ◌*◌, ◌%◌, ◌<◌, ◌≤◌, List, ℕ, ◌∷◌, ◌++◌, length, map, take, None, OnOk, OnErr};
-ghost use Rattle.core_iface.specs.Folding.{places, value_of, weighted, below, sample, ramp};
+ghost use Rattle.usac_cfg.specs.UsacConfig.{IsWellFormed};
+ghost use Rattle.core_iface.specs.Folding.{warm_of, places, value_of, weighted, below, sample, ramp};
 
 use crate::cores::Core;
 use crate::fault::CoreFault;
@@ -13,14 +14,16 @@ use usac_cfg::UsacConfig;
 ///
 /// The value of an independent unit is the sum of the places of its ones, modulo 32768; that of
 /// another unit takes in three times the value of the unit before. Its block is a ramp that starts
-/// at this value plus twice the value before.
+/// at this value plus twice the value before, and with SBR three times the one before that, and at
+/// 4:1 four times the third.
 #[derive(Drop)]
 pub struct FoldCore {
     /// None where the core is not ready.
     config: Option<UsacConfig>,
     context: u16,
-    /// The values of the last units that still tell, the newest first.
-    past: [u16; 1],
+    /// The values of the last units, the newest first. How many of them tell is the warm-up of the
+    /// configuration.
+    past: [u16; 3],
     fed: u64,
 }
 
@@ -44,7 +47,7 @@ impl FoldCore {
         FoldCore {
             config: None,
             context: 0,
-            past: [0],
+            past: [0; 3],
             fed: 0,
         }
     }
@@ -67,10 +70,11 @@ impl Core for FoldCore {
         self.fed
     }
 
-    fn reset(&mut self, _alloc: Global, config: &UsacConfig) -> Result<(), CoreFault> {
-        self.config = Some(*config);
+    fn reset(&mut self, alloc: Global, config: &UsacConfig) -> Result<(), CoreFault> {
+        self.config = None;
+        self.config = Some(config.copy(alloc)?);
         self.context = 0;
-        self.past = [0];
+        self.past = [0; 3];
         Ok(())
     }
 
@@ -79,15 +83,28 @@ impl Core for FoldCore {
             unreachable!()
         };
         let value = value_behind(self.context, unit);
-        let level = u32::from(value) + weighted_sum(&self.past);
+        let level = u32::from(value) + weighted_sum(&self.past[..warm_up(config)]);
         if let Err(fault) = append_ramp(level, config.channels(), config.frame_length(), out) {
             self.config = None;
             return Err(CoreFault::from(fault));
         }
         self.context = value;
-        self.past = [value];
+        self.past = [value, self.past[0], self.past[1]];
         self.fed += 1;
         Ok(())
+    }
+}
+
+/// How many values of units before it a unit's block takes in.
+fn warm_up(config: &UsacConfig) -> usize
+    requires { IsWellFormed config.now }
+    ensures same { result ≡ warm_of config.now }
+    ensures few { result ≤ 3 }
+{
+    match config.ratio() {
+        0 => 1,
+        1 => 3,
+        _ => 2,
     }
 }
 
@@ -168,53 +185,4 @@ fn sample_at(level: u32, time: u32, channel: u32) -> i16
 {
     let place = u64::from(level) + u64::from(time) * (u64::from(channel) + 1);
     ((place % 65536) as u16).cast_signed()
-}
-
-#[cfg(test)]
-mod tests {
-    use super::*;
-    use std::test::Fail;
-    use usac_cfg::CoreConfig;
-
-    const MONO: UsacConfig = UsacConfig {
-        rate_index: 3,
-        frame_index: 1,
-        core: CoreConfig {
-            tw_mdct: false,
-            noise_filling: false,
-        },
-    };
-
-    fn unit(alloc: Global, independent: bool, ones: &[u8]) -> Result<Unit, AllocError> {
-        let mut bits = Bits::new(alloc);
-        for one in ones {
-            bits.push(*one == 1)?;
-        }
-        Ok(Unit { independent, bits })
-    }
-
-    #[test]
-    fn blocks_of_units(rt: HostRuntime) -> Result<(), Fail> {
-        let alloc = rt.alloc();
-        let mut core = FoldCore::new();
-        let mut out = Vec::new(alloc);
-        core.reset(alloc, &MONO)?;
-        let rows: [(bool, &[u8], i16, i16); 3] = [
-            (true, &[0, 1], 2, 1025),
-            (false, &[0, 0, 1], 13, 1036),
-            (true, &[1], 19, 1042),
-        ];
-        for (independent, ones, first, last) in rows {
-            out.clear();
-            let unit = unit(alloc, independent, ones)?;
-            core.step(alloc, &unit, &mut out)?;
-            assert_eq!(rt; out.len(), 1024);
-            assert_eq!(rt; out[0], first);
-            assert_eq!(rt; out[1], first + 1);
-            assert_eq!(rt; out[1023], last);
-        }
-        assert_eq!(rt; core.fed(), 3);
-        assert_eq!(rt; core.faults(), 0);
-        Ok(())
-    }
 }

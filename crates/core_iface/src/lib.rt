@@ -18,3 +18,6 @@ pub use fault::CoreFault;
 pub use fold::FoldCore;
 pub use samples::push_sample_bytes;
 pub use unit::Unit;
+
+#[cfg(test)]
+mod tests;

@@ -30,18 +30,3 @@ fn push_each(samples: &[i16], bytes: &mut Vec<u8>) -> Result<(), AllocError>
     }
     Ok(())
 }
-
-#[cfg(test)]
-mod tests {
-    use super::*;
-    use std::test::Fail;
-
-    #[test]
-    fn bytes_of_samples(rt: HostRuntime) -> Result<(), Fail> {
-        let mut bytes = Vec::new(rt.alloc());
-        push_sample_bytes(&[-1, 258, -32768], &mut bytes)?;
-        let wanted: &[u8] = &[0xff, 0xff, 0x02, 0x01, 0x00, 0x80];
-        assert_eq!(rt; bytes.as_slice(), wanted);
-        Ok(())
-    }
-}
