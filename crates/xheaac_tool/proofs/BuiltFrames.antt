@@ -1,6 +1,6 @@
--- An element of the built form is read exactly, and so is the frame whose element some bytes are.
-use Rattle.std.proofs.Common.{◌≡◌, ℕ, zero, suc, ◌+◌, ◌*◌, ◌/◌, ◌%◌, ◌^◌, ◌<◌, ◌≤◌, Bool, true, false, not, eqb, List, [], ◌∷◌, ◌++◌, length, get_or, replicate, Result, Ok, Err, refl, sym, ap, ◌∙◌, arith, inl, inr}
-use Rattle.std.specs.Prelude.{◌⊎◌}
+-- A canonical element is read exactly, and so is the frame whose element some bytes are.
+use Rattle.std.proofs.Common.{◌≡◌, ℕ, zero, suc, ◌+◌, ◌*◌, ◌/◌, ◌%◌, ◌^◌, ◌<◌, ◌≤◌, Bool, true, false, not, eqb, List, [], ◌∷◌, ◌++◌, length, get_or, replicate, Option, Result, Ok, Err, refl, sym, ap, ◌∙◌, arith, inl, inr}
+use Rattle.std.specs.Prelude.{◌⊎◌, is_some}
 use Rattle.std.proofs.lemmas.Bool.{cases_lt}
 use Rattle.std.proofs.lemmas.List.{length-append, append-nil, replicate_more, length-replicate}
 use Rattle.std.proofs.lemmas.Nat.{pow_pos}
@@ -12,16 +12,17 @@ use Rattle.layout.specs.Exact.{IsExact}
 use Rattle.layout.specs.Reading.{GivesUnless}
 use Rattle.layout.proofs.TextLemmas.{num-split, length-num, value_after-num, length-bits_of}
 use Rattle.layout.proofs.Layouts.{both-exact, shaped-exact, wrapped-exact, checked-exact, constant-exact, where_set-exact, behind-exact, before-exact, left_moved, ok_is, moves}
-use Rattle.bit_core.proofs.PlainFacts.{bits-exact, octets-exact}
+use Rattle.bit_core.proofs.PlainFacts.{bits-exact, bit-exact, octets-exact}
+use Rattle.asc.specs.declared.asc_config.Asc.{Asc}
 use Rattle.bit_core.specs.declared.faults.ReadFault.TheVariants as reads
 use Rattle.esc_value.specs.SlotLength.{slot_text}
 use Rattle.esc_value.proofs.SlotExact.{slot_exact}
-use Rattle.usac_cfg.specs.UsacExact.{usac_config_exact}
+use Rattle.asc.specs.AscExact.{asc_exact}
 use Rattle.xheaac_tool.specs.declared.frame.Frame.{Frame}
 use Rattle.xheaac_tool.specs.declared.frame.ElementFault.{ElementFault}
-use Rattle.xheaac_tool.specs.Faults.{not_built, from_short, from_read, from_config, is_memory}
-use Rattle.xheaac_tool.specs.Element.{number, fixed, mux_head, mux_tail, object_type, asc_fields, stream_mux, length_refused, slot_of_bytes, same_mux, element}
-use Rattle.xheaac_tool.specs.Carrying.{IsBuilt, first_bit}
+use Rattle.xheaac_tool.specs.Faults.{not_built, from_short, from_read, from_asc, is_memory}
+use Rattle.xheaac_tool.specs.Element.{number, fixed, mux_head, mux_tail, stream_mux, slot_of_bytes, same_refused, element}
+use Rattle.xheaac_tool.specs.Carrying.{Choice, IsCanonical, IsBuilt, first_bit}
 
 number-exact : (n : ℕ) → IsExact (number n)
 number-exact n = wrapped-exact from_short _ (bits-exact n)
@@ -35,20 +36,23 @@ mux_head-exact = behind-exact _ _ (fixed-exact 1 0) (behind-exact _ _ (fixed-exa
 mux_tail-exact : IsExact mux_tail
 mux_tail-exact = behind-exact _ _ (fixed-exact 3 0) (behind-exact _ _ (fixed-exact 8 255) (behind-exact _ _ (fixed-exact 1 0) (fixed-exact 1 0)))
 
-object_type-exact : IsExact object_type
-object_type-exact = behind-exact _ _ (fixed-exact 5 31) (fixed-exact 6 10)
-
-asc_fields-exact : IsExact asc_fields
-asc_fields-exact = shaped-exact _ _ _ (both-exact _ _ (number-exact 4) (λ index. both-exact _ _ (where_set-exact (eqb index 15) (number 24) (number-exact 24)) (λ _. both-exact _ _ (number-exact 4) (λ _. wrapped-exact from_config _ usac_config_exact)))) (λ a h. refl) (λ b h. refl)
-
 stream_mux-exact : IsExact stream_mux
-stream_mux-exact = behind-exact _ _ mux_head-exact (before-exact _ _ (behind-exact _ _ object_type-exact asc_fields-exact) mux_tail-exact)
+stream_mux-exact = behind-exact _ _ mux_head-exact (before-exact _ _ (wrapped-exact from_asc _ asc_exact) mux_tail-exact)
 
 slot_of_bytes-exact : IsExact slot_of_bytes
-slot_of_bytes-exact = shaped-exact _ _ _ (both-exact _ _ (checked-exact length_refused _ (wrapped-exact from_short _ slot_exact)) (λ n. wrapped-exact from_read _ (wrapped-exact reads.Short _ (octets-exact n)))) (λ a h. ap (λ (n : ℕ). let p : ℕ × List ℕ = (n, a.1) in p) h.1.0) (λ b h. refl)
+slot_of_bytes-exact = shaped-exact _ _ _ (both-exact _ _ (wrapped-exact from_short _ slot_exact) (λ n. wrapped-exact from_read _ (wrapped-exact reads.Short _ (octets-exact n)))) (λ a h. ap (λ (n : ℕ). let p : ℕ × List ℕ = (n, a.1) in p) h.1.0) (λ b h. refl)
+
+abbrev triple : Bool → Option Asc × List ℕ → Bool × (Option Asc × List ℕ)
+triple b x = (b, x)
+
+twice_not : (b c : Bool) → c ≡ not b → not c ≡ b
+twice_not true c e = rw e refl
+twice_not false c e = rw e refl
 
 pub element-exact : (in_force : Bool) → IsExact (element in_force)
-element-exact in_force = behind-exact _ _ (fixed-exact 1 (same_mux in_force)) (shaped-exact _ _ _ (both-exact _ _ (where_set-exact (not in_force) stream_mux stream_mux-exact) (λ _. slot_of_bytes-exact)) (λ a h. refl) (λ b h. refl))
+element-exact in_force = shaped-exact _ _ _ (
+      both-exact _ _ (checked-exact (same_refused in_force) _ (wrapped-exact from_short _ bit-exact)) (λ same. both-exact _ _ (where_set-exact (not same) stream_mux stream_mux-exact) (λ _. slot_of_bytes-exact)))
+    (λ a h. ap (λ (b : Bool). triple b a.1) (twice_not a.0 (is_some a.1.0) h.1.0.0)) (λ b h. refl)
 
 -- ---- fewer than 8 zeros to the end
 
@@ -100,55 +104,48 @@ abbrev pub start_of : List ℕ → Reader
 start_of body = record { text = bits_of body; at = 0 }
 
 -- what is read, with zeros behind it, is the frame of the bytes
-pub is_built : (o : Bool) (body : List ℕ) (frame : Frame) (start new : Reader) → start ≡ start_of body → GivesUnless is_memory (element o) start new (Ok frame)
-    → ((zeros : ℕ) × (zeros < 8) × (left new ≡ replicate zeros false)) → (o ≡ false → first_bit (bits_of frame.au) ≡ true) → IsBuilt o frame body
-is_built o body frame start new at gives z first =
+pub is_canonical : (o : Bool) (body : List ℕ) (frame : Frame) (start new : Reader) → start ≡ start_of body → GivesUnless is_memory (element o) start new (Ok frame)
+    → ((zeros : ℕ) × (zeros < 8) × (left new ≡ replicate zeros false)) → IsCanonical o frame body
+is_canonical o body frame start new at gives z =
     let t = (element-exact o).takes start new frame gives.0 in
     record {
       fits = t.0;
-      independent = first;
       zeros = z.0;
       few = z.1;
       spelled = sym (ap (λ (r : Reader). left r) at) ∙ t.1 ∙ ap (λ (u : List Bool). (element o).spelling frame ++ u) z.2;
     }
 
 -- and the frame of the bytes is read
-pub reads_built : (o : Bool) (body : List ℕ) (frame : Frame) (start : Reader) → start ≡ start_of body → (b : IsBuilt o frame body)
+pub reads_canonical : (o : Bool) (body : List ℕ) (frame : Frame) (start : Reader) → start ≡ start_of body → (b : IsCanonical o frame body)
     → ((element o).read start ≡ Ok (frame, moved start (length ((element o).spelling frame)))) × (left (moved start (length ((element o).spelling frame))) ≡ replicate b.zeros false)
-reads_built o body frame start at b =
+reads_canonical o body frame start at b =
     let e : left start ≡ (element o).spelling frame ++ replicate b.zeros false = ap (λ (r : Reader). left r) at ∙ b.spelled in
     ((element-exact o).again start frame (replicate b.zeros false) b.fits e, left_moved start ((element o).spelling frame) (replicate b.zeros false) e)
 
 pub none_read : (o : Bool) (body : List ℕ) (start new : Reader) (fault : ElementFault) → start ≡ start_of body → GivesUnless is_memory (element o) start new (Err fault)
-    → is_memory fault ≡ false → (frame : Frame) → IsBuilt o frame body → ⊥
+    → is_memory fault ≡ false → (frame : Frame) → IsCanonical o frame body → ⊥
 none_read o body start new fault at gives free frame b =
-    let is = (reads_built o body frame start at b).0 in
+    let is = (reads_canonical o body frame start at b).0 in
     let fails = gives.0 free in
     cc
 
 -- what is read is the frame of the bytes, if there is one
 pub same_frame_read : (o : Bool) (body : List ℕ) (frame other : Frame) (start new : Reader) → start ≡ start_of body → GivesUnless is_memory (element o) start new (Ok frame)
-    → (b : IsBuilt o other body) → (frame ≡ other) × (left new ≡ replicate b.zeros false)
+    → (b : IsCanonical o other body) → (frame ≡ other) × (left new ≡ replicate b.zeros false)
 same_frame_read o body frame other start new at gives b =
-    let is = reads_built o body other start at b in
+    let is = reads_canonical o body other start at b in
     let p = ok_is {F = ElementFault} (frame, new) (other, moved start (length ((element o).spelling other))) (sym gives.0 ∙ is.0) in
     (ap (λ (x : Frame × Reader). x.0) p, ap (λ (x : Frame × Reader). left x.1) p ∙ is.1)
 
 pub none_zeros : (o : Bool) (body : List ℕ) (frame : Frame) (start new : Reader) → start ≡ start_of body → GivesUnless is_memory (element o) start new (Ok frame)
-    → (((zeros : ℕ) × (zeros < 8) × (left new ≡ replicate zeros false)) → ⊥) → (other : Frame) → IsBuilt o other body → ⊥
+    → (((zeros : ℕ) × (zeros < 8) × (left new ≡ replicate zeros false)) → ⊥) → (other : Frame) → IsCanonical o other body → ⊥
 none_zeros o body frame start new at gives never other b = never (b.zeros, b.few, (same_frame_read o body frame other start new at gives b).1)
 
-pub none_first : (o : Bool) (body : List ℕ) (frame : Frame) (start new : Reader) → start ≡ start_of body → GivesUnless is_memory (element o) start new (Ok frame)
-    → ((o ≡ false → first_bit (bits_of frame.au) ≡ true) → ⊥) → (other : Frame) → IsBuilt o other body → ⊥
-none_first o body frame start new at gives never other b =
-    let same = (same_frame_read o body frame other start new at gives b).0 in
-    never (λ h. ap (λ (f : Frame). first_bit (bits_of f.au)) same ∙ b.independent h)
-
 -- some bytes are the element of one frame at most
-pub one_frame : (o : Bool) (body : List ℕ) (frame other : Frame) → IsBuilt o frame body → IsBuilt o other body → frame ≡ other
-one_frame o body frame other a b =
-    let x = (reads_built o body frame (start_of body) refl a).0 in
-    let y = (reads_built o body other (start_of body) refl b).0 in
+pub one_frame : (k : Choice) (o : Bool) (body : List ℕ) (frame other : Frame) → IsBuilt k o frame body → IsBuilt k o other body → frame ≡ other
+one_frame k o body frame other a b =
+    let x = (reads_canonical o body frame (start_of body) refl a.canonical).0 in
+    let y = (reads_canonical o body other (start_of body) refl b.canonical).0 in
     let p = ok_is {F = ElementFault} (frame, moved (start_of body) (length ((element o).spelling frame))) (other, moved (start_of body) (length ((element o).spelling other))) (sym x ∙ y) in
     ap (λ (q : Frame × Reader). q.0) p
 
@@ -181,28 +178,45 @@ decided_end t =
       | inr never ↦ inr (λ z. never z.0 z.2)
     ]
 
-decided_first : (o b : Bool) → (o ≡ false → b ≡ true) ⊎ ((o ≡ false → b ≡ true) → ⊥)
-decided_first true b = inl (λ h. absurd cc)
-decided_first false true = inl (λ h. refl)
-decided_first false false = inr (λ h. let e = h refl in cc)
-
-pub decided_frame : (o : Bool) (body : List ℕ) → ((frame : Frame) × IsBuilt o frame body) ⊎ ((frame : Frame) → IsBuilt o frame body → ⊥)
-decided_frame o body = go ((element o).read (start_of body)) refl
+decided_canonical : (o : Bool) (body : List ℕ) → ((frame : Frame) × IsCanonical o frame body) ⊎ ((frame : Frame) → IsCanonical o frame body → ⊥)
+decided_canonical o body = go ((element o).read (start_of body)) refl
   where
     read_ok : (frame : Frame) (s : Reader) → (element o).read (start_of body) ≡ Ok (frame, s) → GivesUnless is_memory (element o) (start_of body) s (Ok frame)
     read_ok frame s e = (e, moves (element o) (element-exact o) (start_of body) s frame e)
 
-    go : (q : Result (Frame × Reader) ElementFault) → (element o).read (start_of body) ≡ q → ((frame : Frame) × IsBuilt o frame body) ⊎ ((frame : Frame) → IsBuilt o frame body → ⊥)
-    go (Err f) is = inr (λ frame b. let reads = (reads_built o body frame (start_of body) refl b).0 in cc)
+    go : (q : Result (Frame × Reader) ElementFault) → (element o).read (start_of body) ≡ q → ((frame : Frame) × IsCanonical o frame body) ⊎ ((frame : Frame) → IsCanonical o frame body → ⊥)
+    go (Err f) is = inr (λ frame b. let reads = (reads_canonical o body frame (start_of body) refl b).0 in cc)
     go (Ok x) is =
         let gives = read_ok x.0 x.1 is in
         elim (decided_end (left x.1)) [
-          | inl z ↦ elim (decided_first o (first_bit (bits_of x.0.au))) [
-            | inl first ↦ inl (x.0, is_built o body x.0 (start_of body) x.1 refl gives z first)
-            | inr never ↦ inr (none_first o body x.0 (start_of body) x.1 refl gives never)
-          ]
+          | inl z ↦ inl (x.0, is_canonical o body x.0 (start_of body) x.1 refl gives z)
           | inr never ↦ inr (none_zeros o body x.0 (start_of body) x.1 refl gives never)
         ]
+
+one_canonical : (o : Bool) (body : List ℕ) (frame other : Frame) → IsCanonical o frame body → IsCanonical o other body → frame ≡ other
+one_canonical o body frame other a b =
+    let x = (reads_canonical o body frame (start_of body) refl a).0 in
+    let y = (reads_canonical o body other (start_of body) refl b).0 in
+    let p = ok_is {F = ElementFault} (frame, moved (start_of body) (length ((element o).spelling frame))) (other, moved (start_of body) (length ((element o).spelling other))) (sym x ∙ y) in
+    ap (λ (q : Frame × Reader). q.0) p
+
+-- a canonical frame that is not taken is none that is
+pub not_taken : (k : Choice) (o : Bool) (body : List ℕ) (frame : Frame) → IsCanonical o frame body → k o frame ≡ false → (other : Frame) → IsBuilt k o other body → ⊥
+not_taken k o body frame a refused other b =
+    let same = one_canonical o body frame other a b.canonical in
+    let never : true ≡ false = sym b.taken ∙ ap (λ (f : Frame). k o f) (sym same) ∙ refused in
+    cc
+
+pub decided_frame : (k : Choice) (o : Bool) (body : List ℕ) → ((frame : Frame) × IsBuilt k o frame body) ⊎ ((frame : Frame) → IsBuilt k o frame body → ⊥)
+decided_frame k o body =
+    elim (decided_canonical o body) [
+      | inl a ↦ by_choice a.0 a.1 (k o a.0) refl
+      | inr never ↦ inr (λ frame b. never frame b.canonical)
+    ]
+  where
+    by_choice : (frame : Frame) → IsCanonical o frame body → (b : Bool) → k o frame ≡ b → ((other : Frame) × IsBuilt k o other body) ⊎ ((other : Frame) → IsBuilt k o other body → ⊥)
+    by_choice frame a true e = inl (frame, record { canonical = a; taken = e })
+    by_choice frame a false e = inr (not_taken k o body frame a e)
 
 -- bytes have bits
 pub some_bits : (bytes : List ℕ) → 0 < length bytes → (b : Bool) × (t : List Bool) × (bits_of bytes ≡ b ∷ t)
@@ -217,11 +231,11 @@ unfolding bits_of
 octets_long au = length-bits_of au
 
 -- an access unit is no longer than its element
-pub au_fits : (o : Bool) (frame : Frame) (body : List ℕ) → IsBuilt o frame body → length frame.au ≤ length body
+pub au_fits : (o : Bool) (frame : Frame) (body : List ℕ) → IsCanonical o frame body → length frame.au ≤ length body
 au_fits o frame body b =
-    let head = num 1 (same_mux o) in
+    let same : List Bool = not (is_some frame.opening) ∷ [] in
     let mux = spelling_of stream_mux.spelling frame.opening in
     let slot = slot_text (length frame.au) in
     let au = flat_map (num 8) frame.au in
-    let whole : bits_of body ≡ (head ++ (mux ++ (slot ++ au))) ++ replicate b.zeros false = b.spelled in
-    omega (arith, length-bits_of body, ap (λ (t : List Bool). length t) whole, length-append (head ++ (mux ++ (slot ++ au))) (replicate b.zeros false), length-append head (mux ++ (slot ++ au)), length-append mux (slot ++ au), length-append slot au, octets_long frame.au)
+    let whole : bits_of body ≡ (same ++ (mux ++ (slot ++ au))) ++ replicate b.zeros false = b.spelled in
+    omega (arith, length-bits_of body, ap (λ (t : List Bool). length t) whole, length-append (same ++ (mux ++ (slot ++ au))) (replicate b.zeros false), length-append same (mux ++ (slot ++ au)), length-append mux (slot ++ au), length-append slot au, octets_long frame.au)

@@ -5,22 +5,21 @@ use Rattle.std.specs.Str.{bytes_eq}
 use Rattle.std.specs.Io.KnownBytes.{append_known}
 use Rattle.std.proofs.lemmas.List.{take_all}
 use Rattle.core_iface.specs.Decoding.{Definitions}
-use Rattle.core_iface.specs.Samples.{sample_bytes}
-use Rattle.xheaac_tool.specs.Carrying.{Carries, IsLongest}
+use Rattle.xheaac_tool.specs.Carrying.{Choice, Carries, IsLongest}
+use Rattle.xheaac_tool.specs.Commands.{Command, fed_for}
+use Rattle.xheaac_tool.specs.Jobs.{Job, GivesOutput, bytes_through}
 use Rattle.xheaac_tool.specs.Causes.{Counts, Caused}
 use Rattle.xheaac_tool.specs.Handing.{WrotePart}
-use Rattle.xheaac_tool.specs.Output.{output}
-use Rattle.xheaac_tool.specs.Played.{Traces, PlaysFile, Ends, WroteAll, WroteFront}
-use Rattle.xheaac_tool.specs.Ran.{Notes, Noted, Reports, NotedFront, NotesOf, CausesOf, RunsPlay, status_of, text_of}
+use Rattle.xheaac_tool.specs.Ending.{Traces, DoesFile, Ends, WroteAll, WroteFront}
+use Rattle.xheaac_tool.specs.Ran.{Notes, Noted, Reports, NotedFront, NotesOf, CausesOf, RunsFile, status_of, text_of}
 use Rattle.xheaac_tool.specs.Reading.{most_bytes}
 use Rattle.xheaac_tool.specs.Texts.{read_text, write_text, core_text, memory_text}
-use Rattle.xheaac_tool.specs.Stepping.{emitted_through}
-use Rattle.xheaac_tool.specs.Words.{case_of, file_of, Play}
+use Rattle.xheaac_tool.specs.Words.{Case, case_of, file_in, file_of, Show, Play}
 use Rattle.xheaac_tool.specs.declared.frame.Frame.{Frame}
 use Rattle.xheaac_tool.specs.declared.outcome.Outcome.{Outcome}
 use Rattle.xheaac_tool.specs.declared.outcome.Outcome.TheVariants as is
 use Rattle.xheaac_tool.proofs.Endings.{told, wrote_front, played_first}
-use Rattle.xheaac_tool.proofs.Outputs.{output_is}
+use Rattle.xheaac_tool.proofs.Going.{fed_later}
 
 -- ---- statuses and outcomes
 
@@ -84,34 +83,34 @@ core_outcome n o s r e = at_five o (told_status n o s 5 r e (omega arith)).0
 
 -- ---- what was written
 
-carries_first : (o : Bool) (text : List ℕ) (fs more : List Frame) (rest : List ℕ) → Carries o text (fs ++ more) rest → (between : List ℕ) × Carries o text fs between
-carries_first o text [] more rest c = (text, refl)
-carries_first o text (frame ∷ fs) more rest c = let m = carries_first true c.1 fs more rest c.5 in (m.0, (c.0, c.1, c.2, c.3, c.4, m.1))
+carries_first : (k : Choice) (o : Bool) (text : List ℕ) (fs more : List Frame) (rest : List ℕ) → Carries k o text (fs ++ more) rest → (between : List ℕ) × Carries k o text fs between
+carries_first k o text [] more rest c = (text, refl)
+carries_first k o text (frame ∷ fs) more rest c = let m = carries_first k true c.1 fs more rest c.5 in (m.0, (c.0, c.1, c.2, c.3, c.4, m.1))
 
-front_of_all : (d : Definitions) (frames : List Frame) (t : Traces) → WroteAll d frames t → WroteFront d frames t
-front_of_all d frames t w =
-    let xs = output d frames in
-    record { written = (length xs, w.written ∙ ap (λ (x : List ℕ). append_known t.written_before x) (sym (take_all (length xs) xs (omega arith)))); fed = omega (arith, w.fed) }
+front_of_all : (c : Command) (frames : List Frame) (t : Traces) → WroteAll c frames t → WroteFront c frames t
+front_of_all c frames t w =
+    let xs = c.output frames in
+    record { written = (length xs, w.written ∙ ap (λ (x : List ℕ). append_known t.written_before x) (sym (take_all (length xs) xs (omega arith)))); fed = omega (arith, w.fed, fed_later c.feeds (length frames)) }
 
-front_of_first : (d : Definitions) (text : List ℕ) (fs more : List Frame) (rest : List ℕ) (t : Traces) → Carries false text (fs ++ more) rest → WroteAll d fs t → WroteFront d (fs ++ more) t
-front_of_first d text fs more rest t c w =
-    let m = carries_first false text fs more rest c in
-    let xs = sample_bytes (emitted_through d None fs) in
-    let whole : output d fs ≡ take (length xs) xs = sym (output_is d None text fs m.0 m.1) ∙ sym (take_all (length xs) xs (omega arith)) in
-    wrote_front d None text fs more rest t c (record { written = (length xs, w.written ∙ ap (λ (x : List ℕ). append_known t.written_before x) whole); fed = omega (arith, w.fed) })
+front_of_first : (j : Job) (gives : GivesOutput j) (text : List ℕ) (fs more : List Frame) (rest : List ℕ) (t : Traces) → Carries j.command.takes false text (fs ++ more) rest → WroteAll j.command fs t → WroteFront j.command (fs ++ more) t
+front_of_first j gives text fs more rest t c w =
+    let m = carries_first j.command.takes false text fs more rest c in
+    let xs = bytes_through j None fs in
+    let whole : j.command.output fs ≡ take (length xs) xs = sym (gives None text fs m.0 m.1) ∙ sym (take_all (length xs) xs (omega arith)) in
+    wrote_front j gives None text fs more rest t c (record { written = (length xs, w.written ∙ ap (λ (x : List ℕ). append_known t.written_before x) whole); fed = omega (arith, w.fed, fed_later j.command.feeds (length fs)) })
 
 -- however the command ended, a front of the output was written
-front_of : (d : Definitions) (text : List ℕ) (remains : Option (List ℕ)) (t : Traces) (o : Outcome) → PlaysFile d text remains t o → (frames : List Frame) × (rest : List ℕ) × IsLongest (take most_bytes text) frames rest × WroteFront d frames t
-front_of d text remains t is.Done p = let s = p.ends in (s.0, [], s.1.longest, front_of_all d s.0 t s.2)
-front_of d text remains t (is.Refused words) p = let s = p.ends in (s.0, s.1, s.2.longest, front_of_all d s.0 t s.4)
-front_of d text remains t is.ReadFault p =
+front_of : (j : Job) (gives : GivesOutput j) (text : List ℕ) (remains : Option (List ℕ)) (t : Traces) (o : Outcome) → DoesFile j.command text remains t o → (frames : List Frame) × (rest : List ℕ) × IsLongest j.command.takes (take most_bytes text) frames rest × WroteFront j.command frames t
+front_of j gives text remains t is.Done p = let s = p.ends in (s.0, [], s.1.longest, front_of_all j.command s.0 t s.2)
+front_of j gives text remains t (is.Refused words) p = let s = p.ends in (s.0, s.1, s.2.longest, front_of_all j.command s.0 t s.4)
+front_of j gives text remains t is.ReadFault p =
     let s = p.ends in
     let k = told text p.taken remains p.from in
-    let f = played_first text p.taken k.0 s.0 s.1 k.2 s.4 s.2.carried in
-    (s.0 ++ f.0, f.1, f.2, front_of_first d (take most_bytes text) s.0 f.0 f.1 t f.2.carried s.5)
-front_of d text remains t is.WriteFault p = p.ends
-front_of d text remains t is.CoreFault p = let s = p.ends in (s.0 ++ s.1, s.2, s.3, front_of_first d (take most_bytes text) s.0 s.1 s.2 t s.3.carried s.5)
-front_of d text remains t (is.Memory error) p = p.ends
+    let f = played_first j.command.takes text p.taken k.0 s.0 s.1 k.2 s.4 s.2.carried in
+    (s.0 ++ f.0, f.1, f.2, front_of_first j gives (take most_bytes text) s.0 f.0 f.1 t f.2.carried s.5)
+front_of j gives text remains t is.WriteFault p = p.ends
+front_of j gives text remains t is.CoreFault p = let s = p.ends in (s.0 ++ s.1, s.2, s.3, front_of_first j gives (take most_bytes text) s.0 s.1 s.2 t s.3.carried s.5)
+front_of j gives text remains t (is.Memory error) p = p.ends
 
 -- whatever the status, note grew by a front of the outcome's text
 part_noted : (n : Notes) (o : Outcome) (wanted s : ℕ) → Reports n (text_of o) wanted s → WrotePart n.before n.after (text_of o)
@@ -120,33 +119,33 @@ part_noted n o wanted s (inl (a, (inr (part, risen)))) = part
 part_noted n o wanted s (inr (a, part)) = part
 
 -- and that is a text of the command
-noted_front : (d : Definitions) (text : List ℕ) (remains : Option (List ℕ)) (t : Traces) (n : Notes) (o : Outcome) (p : PlaysFile d text remains t o) → WrotePart n.before n.after (text_of o) → NotedFront n (length (front_of d text remains t o p).0)
+noted_front : (j : Job) (gives : GivesOutput j) (text : List ℕ) (remains : Option (List ℕ)) (t : Traces) (n : Notes) (o : Outcome) (p : DoesFile j.command text remains t o) → WrotePart n.before n.after (text_of o) → NotedFront n (length (front_of j gives text remains t o p).0)
 unfolding front_of
-noted_front d text remains t n is.Done p part = (memory_text, inl refl, (0, part.1 ∙ ap (λ (x : List ℕ). append_known n.before x) (take_all part.0 [] (omega arith))))
-noted_front d text remains t n (is.Refused words) p part = let ends = p.ends in (words, inr (inr (inr (inr ends.3))), part)
-noted_front d text remains t n is.ReadFault p part = (read_text, inr (inl refl), part)
-noted_front d text remains t n is.WriteFault p part = (write_text, inr (inr (inl refl)), part)
-noted_front d text remains t n is.CoreFault p part = (core_text, inr (inr (inr (inl refl))), part)
-noted_front d text remains t n (is.Memory error) p part = (memory_text, inl refl, part)
+noted_front j gives text remains t n is.Done p part = (memory_text, inl refl, (0, part.1 ∙ ap (λ (x : List ℕ). append_known n.before x) (take_all part.0 [] (omega arith))))
+noted_front j gives text remains t n (is.Refused words) p part = let ends = p.ends in (words, inr (inr (inr (inr ends.3))), part)
+noted_front j gives text remains t n is.ReadFault p part = (read_text, inr (inl refl), part)
+noted_front j gives text remains t n is.WriteFault p part = (write_text, inr (inr (inl refl)), part)
+noted_front j gives text remains t n is.CoreFault p part = (core_text, inr (inr (inr (inl refl))), part)
+noted_front j gives text remains t n (is.Memory error) p part = (memory_text, inl refl, part)
 
 -- ---- the records of the top call
 
-pub runs_play : (d : Definitions) (text : List ℕ) (remains : Option (List ℕ)) (t : Traces) (n : Notes) (o : Outcome) (s : ℕ) → PlaysFile d text remains t o → Reports n (text_of o) (status_of o) s → RunsPlay d text remains t n s
-runs_play d text remains t n o s p r = record {
+pub runs_file : (j : Job) (gives : GivesOutput j) (text : List ℕ) (remains : Option (List ℕ)) (t : Traces) (n : Notes) (o : Outcome) (s : ℕ) → DoesFile j.command text remains t o → Reports n (text_of o) (status_of o) s → RunsFile j.command text remains t n s
+runs_file j gives text remains t n o s p r = record {
   taken = p.taken;
   from = p.from;
   within = p.within;
-  done = λ e. subst (λ (x : Outcome). Ends d text p.taken t x) (done_outcome n o s r e) p.ends;
+  done = λ e. subst (λ (x : Outcome). Ends j.command text p.taken t x) (done_outcome n o s r e) p.ends;
   refused = λ e.
       let k = told_status n o s 1 r e (omega arith) in
       let w = at_one o k.0 in
-      let ends = subst (λ (x : Outcome). Ends d text p.taken t x) w.1 p.ends in
+      let ends = subst (λ (x : Outcome). Ends j.command text p.taken t x) w.1 p.ends in
       let noted = subst (λ (x : Outcome). Noted n (text_of x)) w.1 k.1 in
       (ends.0, ends.1, ends.2, subst (λ (x : List ℕ). Noted n x) ends.3 noted, ends.4);
-  read = λ e. subst (λ (x : Outcome). Ends d text p.taken t x) (read_outcome n o s r e) p.ends;
-  write = λ e. subst (λ (x : Outcome). Ends d text p.taken t x) (write_outcome n o s r e) p.ends;
-  core = λ e. subst (λ (x : Outcome). Ends d text p.taken t x) (core_outcome n o s r e) p.ends;
-  memory = λ e. let f = front_of d text remains t o p in (f.0, f.1, f.2, noted_front d text remains t n o p (part_noted n o (status_of o) s r), f.3);
+  read = λ e. subst (λ (x : Outcome). Ends j.command text p.taken t x) (read_outcome n o s r e) p.ends;
+  write = λ e. subst (λ (x : Outcome). Ends j.command text p.taken t x) (write_outcome n o s r e) p.ends;
+  core = λ e. subst (λ (x : Outcome). Ends j.command text p.taken t x) (core_outcome n o s r e) p.ends;
+  memory = λ e. let f = front_of j gives text remains t o p in (f.0, f.1, f.2, noted_front j gives text remains t n o p (part_noted n o (status_of o) s r), f.3);
 }
 
 pub notes_of : (n : Notes) (o : Outcome) (s : ℕ) → (o ≡ is.Done → (n.after ≡ n.before) × (n.faults_after ≡ n.faults_before)) → Reports n (text_of o) (status_of o) s → NotesOf n s
@@ -186,12 +185,22 @@ play_status n o s (inl (a, noted)) = by_outcome o a
     by_outcome is.CoreFault e = (omega arith, λ two. omega arith)
     by_outcome (is.Memory error) e = (omega arith, λ two. omega arith)
 
-pub file_named : (words : List (List ℕ)) (file : List ℕ) → case_of words ≡ Some (Play file) → file_of words ≡ file
-file_named [] file e = absurd cc
-file_named (command ∷ []) file e = absurd cc
-file_named (command ∷ name ∷ []) file e = by_command (bytes_eq command (codes "play")) e
+abbrev some_case : Case → Option Case
+some_case c = Some c
+
+same_case : (c d : Case) → some_case c ≡ some_case d → c ≡ d
+same_case c d e = cc
+
+pub file_named : (words : List (List ℕ)) (case : Case) → case_of words ≡ Some case → file_of words ≡ file_in case
+file_named [] case e = absurd cc
+file_named (command ∷ []) case e = absurd cc
+file_named (command ∷ name ∷ []) case e = by_show (bytes_eq command (codes "show")) (bytes_eq command (codes "play")) e
   where
-    by_command : (b : Bool) → (if b then Some (Play name) else None) ≡ Some (Play file) → name ≡ file
-    by_command true e = cc
-    by_command false e = absurd cc
-file_named (command ∷ name ∷ more ∷ words) file e = absurd cc
+    named : (c d : Case) → some_case c ≡ some_case d → file_in c ≡ name → name ≡ file_in d
+    named c d e here = sym here ∙ ap file_in (same_case c d e)
+
+    by_show : (a b : Bool) → (if a then Some (Show name) else (if b then Some (Play name) else None)) ≡ Some case → name ≡ file_in case
+    by_show true b e = named (Show name) case e refl
+    by_show false true e = named (Play name) case e refl
+    by_show false false e = absurd cc
+file_named (command ∷ name ∷ more ∷ words) case e = absurd cc

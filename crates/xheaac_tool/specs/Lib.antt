@@ -6,8 +6,12 @@ pub mod Taking
 pub mod Faults
 pub mod Element
 pub mod Carrying
+pub mod Commands
+pub mod Jobs
 pub mod Output
 pub mod Stepping
+pub mod Showing
+pub mod Outputs
 pub mod Handing
 pub mod OneFrame
 pub mod Words
@@ -15,5 +19,5 @@ pub mod Asked
 pub mod Ran
 pub mod Texts
 pub mod Causes
-pub mod Played
-pub mod Playing
+pub mod Ending
+pub mod Doing

@@ -4,11 +4,15 @@ use Rattle.std.specs.declared.option.Option.{Option}
 use Rattle.std.specs.Io.KnownBytes.{append_known, prepend_known}
 use Rattle.causes.specs.Counts.{Rose}
 use Rattle.core_iface.specs.Decoding.{Definitions}
+use Rattle.xheaac_tool.specs.Commands.{Command}
+use Rattle.xheaac_tool.specs.Output.{playing, IsServed, usac_of}
+use Rattle.xheaac_tool.specs.Showing.{showing}
+use Rattle.xheaac_tool.specs.Words.{Case, Show, Play}
 use Rattle.xheaac_tool.specs.Carrying.{IsLongest}
 use Rattle.xheaac_tool.specs.Causes.{Counts, Caused}
 use Rattle.xheaac_tool.specs.Framing.{IsPartial}
 use Rattle.xheaac_tool.specs.Handing.{WrotePart}
-use Rattle.xheaac_tool.specs.Played.{Traces, IsWhole, IsBroken, WroteAll, WroteFront}
+use Rattle.xheaac_tool.specs.Ending.{Traces, IsWhole, IsBroken, WroteAll, WroteFront, OfFile}
 use Rattle.xheaac_tool.specs.Reading.{most_bytes}
 use Rattle.xheaac_tool.specs.Texts.{not_built_text, read_text, write_text, core_text, memory_text}
 use Rattle.xheaac_tool.specs.declared.frame.Frame.{Frame}
@@ -47,16 +51,16 @@ text_of is.WriteFault = write_text
 text_of is.CoreFault = core_text
 text_of (is.Memory e) = memory_text
 
--- a text that `play` writes on note behind so many frames
-abbrev pub IsTextOfPlay : ℕ → List ℕ → Type 0
-IsTextOfPlay count text =
+-- a text that a command writes on note behind so many frames
+abbrev pub IsTextOfCommand : ℕ → List ℕ → Type 0
+IsTextOfCommand count text =
     (text ≡ memory_text) ⊎ ((text ≡ read_text) ⊎ ((text ≡ write_text) ⊎ ((text ≡ core_text) ⊎ (text ≡ not_built_text count))))
 
 -- At status 6 note grew by a front of one of these: that of want of memory, or the one that was being written.
 abbrev pub NotedFront : Notes → ℕ → Type 0
-NotedFront n count = (text : List ℕ) × IsTextOfPlay count text × WrotePart n.before n.after text
+NotedFront n count = (text : List ℕ) × IsTextOfCommand count text × WrotePart n.before n.after text
 
--- What `play` tells on note, by its status.
+-- What a command tells on note, by its status.
 pub record NotesOf (n : Notes) (status : ℕ) : Type 0 where
   pub done : status ≡ 0 → (n.after ≡ n.before) × (n.faults_after ≡ n.faults_before)
   pub read : status ≡ 3 → Noted n read_text
@@ -70,16 +74,26 @@ pub record CausesOf (before now : Counts) (status : ℕ) : Type 0 where
   pub write : status ≡ 4 → Caused before now is.WriteFault
   pub core : status ≡ 5 → Caused before now is.CoreFault
 
--- `play` of a file with these bytes: what was taken of it, and what each status says. The frames are the most that the
+-- A command on a file with these bytes: what was taken of it, and what each status says. The frames are the most that the
 -- counted bytes of the file carry; at a read fault, the most that the bytes taken so far carry.
-pub record RunsPlay (d : Definitions) (text : List ℕ) (remains : Option (List ℕ)) (t : Traces) (n : Notes) (status : ℕ) : Type 0 where
+pub record RunsFile (c : Command) (text : List ℕ) (remains : Option (List ℕ)) (t : Traces) (n : Notes) (status : ℕ) : Type 0 where
   pub taken : List ℕ
   pub from : Some text ≡ prepend_known taken remains
   pub within : length taken ≤ most_bytes + 1
-  pub done : status ≡ 0 → (frames : List Frame) × IsWhole text frames × WroteAll d frames t
-  pub refused : status ≡ 1 → (frames : List Frame) × (rest : List ℕ) × IsBroken text frames rest × Noted n (not_built_text (length frames)) × WroteAll d frames t
-  pub read : status ≡ 3 → (frames : List Frame) × (rest : List ℕ) × IsLongest taken frames rest × IsPartial rest × (length taken ≤ most_bytes) × WroteAll d frames t
-  pub write : status ≡ 4 → (frames : List Frame) × (rest : List ℕ) × IsLongest (take most_bytes text) frames rest × WroteFront d frames t
+  pub done : status ≡ 0 → (frames : List Frame) × IsWhole c.takes text frames × WroteAll c frames t
+  pub refused : status ≡ 1 → (frames : List Frame) × (rest : List ℕ) × IsBroken c.takes text frames rest × Noted n (not_built_text (length frames)) × WroteAll c frames t
+  pub read : status ≡ 3 → (frames : List Frame) × (rest : List ℕ) × IsLongest c.takes taken frames rest × IsPartial rest × (length taken ≤ most_bytes) × WroteAll c frames t
+  pub write : status ≡ 4 → (frames : List Frame) × (rest : List ℕ) × IsLongest c.takes (take most_bytes text) frames rest × WroteFront c frames t
   -- the frame at which the core failed is the first of the others
-  pub core : status ≡ 5 → (played others : List Frame) × (rest : List ℕ) × IsLongest (take most_bytes text) (played ++ others) rest × (0 < length others) × WroteAll d played t
-  pub memory : status ≡ 6 → (frames : List Frame) × (rest : List ℕ) × IsLongest (take most_bytes text) frames rest × NotedFront n (length frames) × WroteFront d frames t
+  pub core : status ≡ 5 → (played others : List Frame) × (rest : List ℕ) × IsLongest c.takes (take most_bytes text) (played ++ others) rest × (0 < length others) × WroteAll c played t
+  pub memory : status ≡ 6 → (frames : List Frame) × (rest : List ℕ) × IsLongest c.takes (take most_bytes text) frames rest × NotedFront n (length frames) × WroteFront c frames t
+
+-- the command of a case
+abbrev pub command_of : Definitions → Case → Command
+command_of d (Show file) = showing
+command_of d (Play file) = playing d
+
+-- the core serves each configuration that the case puts in force for it
+abbrev pub IsCaseServed : Definitions → Case → List ℕ → Type 0
+IsCaseServed d (Show file) text = Unit {0}
+IsCaseServed d (Play file) text = OfFile (playing d).takes (λ frame. IsServed d (usac_of frame.opening)) text

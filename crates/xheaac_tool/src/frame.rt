@@ -1,34 +1,23 @@
-// Frames of the built form, and why there is none.
+// Frames of the canonical mux, and why there is none.
 ghost use Rattle.std.specs.Prelude.{◌≡◌};
 
+use asc::{Asc, AscFault};
 use bit_core::{Octets, ReadFault, Short};
 use std::alloc::AllocError;
 use thiserror::Error;
-use usac_cfg::{CfgFault, UsacConfig};
-
-/// What the first frame puts in force: the fields of AudioSpecificConfig that may vary.
-#[derive(Clone, Copy)]
-pub struct Opening {
-    /// `samplingFrequencyIndex`
-    pub index: u8,
-    /// `samplingFrequency`, where the index is 15.
-    pub explicit_rate: Option<u32>,
-    /// `channelConfiguration`
-    pub channels: u8,
-    pub usac: UsacConfig,
-}
 
 /// A frame: what it puts in force, where it does, and its access unit.
 #[derive(Drop)]
 pub struct Frame {
-    pub opening: Option<Opening>,
+    /// The AudioSpecificConfig of its StreamMuxConfig, where it has one.
+    pub opening: Option<Asc>,
     pub au: Octets,
 }
 
 /// Why an element was not read.
 #[derive(Debug, Drop, Error)]
 pub enum ElementFault {
-    /// It is not of the built form, or ends too early.
+    /// It is not canonical, or ends too early, or is not taken.
     #[error("form not built")]
     NotBuilt,
     #[error("out of memory")]
@@ -58,14 +47,14 @@ impl From<ReadFault> for ElementFault {
     }
 }
 
-impl From<CfgFault> for ElementFault {
-    ghost use Rattle.xheaac_tool.specs.Faults.{from_config};
+impl From<AscFault> for ElementFault {
+    ghost use Rattle.xheaac_tool.specs.Faults.{from_asc};
 
-    ghost from_gives = { λ s e. e ≡ from_config s };
+    ghost from_gives = { λ s e. e ≡ from_asc s };
 
-    fn from(fault: CfgFault) -> ElementFault {
+    fn from(fault: AscFault) -> ElementFault {
         match fault {
-            CfgFault::Memory(error) => ElementFault::Memory(error),
+            AscFault::Memory(error) => ElementFault::Memory(error),
             _ => ElementFault::NotBuilt,
         }
     }

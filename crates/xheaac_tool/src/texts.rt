@@ -5,7 +5,7 @@ ghost use Rattle.xheaac_tool.specs.Texts.{not_built_text};
 use bit_core::Octets;
 use std::alloc::{AllocError, Global};
 
-/// The refusal of a frame that is not of the built form.
+/// The refusal of a frame that is not taken.
 pub fn not_built(alloc: Global, frame: u64) -> Result<Octets, AllocError>
     ensures { IfOk result (λ text. text ≡ not_built_text frame) }
 {

@@ -1,14 +1,15 @@
 // The top call.
-ghost use Rattle.std.specs.Prelude.{◌≡◌, ◌≢◌, ◌<◌, ◌≤◌, ◌+◌, ◌^◌, ◌⊎◌, ℕ, List, [], None, Some, IsNone, IsTrue};
+ghost use Rattle.std.specs.Prelude.{◌≡◌, ◌≢◌, ◌<◌, ◌≤◌, ◌+◌, ◌^◌, ◌⊎◌, ℕ, List, [], false, None, Some, IsNone, IsTrue};
 ghost use Rattle.std.specs.Io.KnownBytes.{prepend_known};
-ghost use Rattle.xheaac_tool.specs.Words.{texts, case_of, Play};
+ghost use Rattle.xheaac_tool.specs.Words.{Case, texts, case_of, file_in};
 ghost use Rattle.xheaac_tool.specs.Texts.{usage_text};
-ghost use Rattle.xheaac_tool.specs.Ran.{Reports, NotesOf, CausesOf, RunsPlay, status_of, text_of};
-ghost use Rattle.xheaac_tool.specs.Played.{IsTextServed, remains_of};
+ghost use Rattle.xheaac_tool.specs.Ran.{Reports, NotesOf, CausesOf, RunsFile, command_of, IsCaseServed, status_of, text_of};
+ghost use Rattle.xheaac_tool.specs.Ending.{remains_of};
 
 use crate::give::give_all;
 use crate::outcome::Outcome;
 use crate::play::do_play;
+use crate::show::do_show;
 use crate::words::{Asked, read_words};
 use core_iface::Core;
 use outside::{DeviceFault, Shelf, Sink};
@@ -92,9 +93,9 @@ pub fn run<H: Shelf, K: Sink, N: Sink, C: Core>(
     ensures usage_only { result ≡ 2 → case_of (texts words.now) ≡ None }
     ensures statuses { result < 7 }
 
-    // `play FILE`, where the shelf tells the bytes of the file: they say what was written, and what each status means.
-    ensures play { (file text : List ℕ) → case_of (texts words.now) ≡ Some (Play file) → H.bytes shelf.old file ≡ Some text →
-        RunsPlay C.does text (remains_of (H.begun shelf.old) (H.begun shelf.new) (H.left shelf.new (H.begun shelf.old)) (Some text))
+    // A command on a file, where the shelf tells its bytes: they say what was written, and what each status means.
+    ensures file { (case : Case) (text : List ℕ) → case_of (texts words.now) ≡ Some case → H.bytes shelf.old (file_in case) ≡ Some text →
+        RunsFile (command_of C.does case) text (remains_of (H.begun shelf.old) (H.begun shelf.new) (H.left shelf.new (H.begun shelf.old)) (Some text))
         (record {
           written_before = K.written out.old;
           written_after = K.written out.new;
@@ -104,9 +105,9 @@ pub fn run<H: Shelf, K: Sink, N: Sink, C: Core>(
         (record { before = N.written note.old; after = N.written note.new; faults_before = N.faults note.old; faults_after = N.faults note.new }) result }
 
     // Whether it tells them or not, there are bytes that were taken of the file, and they account for all.
-    ensures taken { (file : List ℕ) → case_of (texts words.now) ≡ Some (Play file) → (taken : List ℕ)
-        × (H.bytes shelf.old file ≡ prepend_known taken (remains_of (H.begun shelf.old) (H.begun shelf.new) (H.left shelf.new (H.begun shelf.old)) (H.bytes shelf.old file)))
-        × RunsPlay C.does taken (Some [])
+    ensures taken { (case : Case) → case_of (texts words.now) ≡ Some case → (taken : List ℕ)
+        × (H.bytes shelf.old (file_in case) ≡ prepend_known taken (remains_of (H.begun shelf.old) (H.begun shelf.new) (H.left shelf.new (H.begun shelf.old)) (H.bytes shelf.old (file_in case))))
+        × RunsFile (command_of C.does case) taken (Some [])
         (record {
           written_before = K.written out.old;
           written_after = K.written out.new;
@@ -116,11 +117,14 @@ pub fn run<H: Shelf, K: Sink, N: Sink, C: Core>(
         (record { before = N.written note.old; after = N.written note.new; faults_before = N.faults note.old; faults_after = N.faults note.new }) result }
 
     // Where it tells that it holds no such file, it is a read fault, and nothing is written.
-    ensures missing { (file : List ℕ) → case_of (texts words.now) ≡ Some (Play file) → IsTrue (H.tells shelf.old) → IsNone (H.bytes shelf.old file) →
+    ensures missing { (case : Case) → case_of (texts words.now) ≡ Some case → IsTrue (H.tells shelf.old) → IsNone (H.bytes shelf.old (file_in case)) →
         ((result ≡ 3) ⊎ (result ≡ 6)) × (out.new ≡ out.old) × (core.new ≡ core.old) }
 
+    // A command that feeds no frames leaves the core as it was.
+    ensures unfed { (case : Case) → case_of (texts words.now) ≡ Some case → (command_of C.does case).feeds ≡ false → core.new ≡ core.old }
+
     // A fault is answered only where that object's count rose, and its text is noted.
-    ensures notes { (file : List ℕ) → case_of (texts words.now) ≡ Some (Play file) →
+    ensures notes { (case : Case) → case_of (texts words.now) ≡ Some case →
         NotesOf (record { before = N.written note.old; after = N.written note.new; faults_before = N.faults note.old; faults_after = N.faults note.new }) result }
     ensures causes { CausesOf
         (record { shelf = H.faults shelf.old; out = K.faults out.old; core = (C.meaning core.old).faults })
@@ -137,11 +141,15 @@ pub fn run<H: Shelf, K: Sink, N: Sink, C: Core>(
     ensures calm_shelf { H.calm shelf.old → H.calm shelf.new }
     ensures calm_out { K.calm out.old → K.calm out.new }
     ensures calm_core { C.IsCalm core.old → C.IsCalm core.new }
-    ensures complete { (file text : List ℕ) → case_of (texts words.now) ≡ Some (Play file) → H.bytes shelf.old file ≡ Some text
-        → (H.calm shelf.old → result ≢ 3) × (K.calm out.old → result ≢ 4) × (IsTextServed C.does text → C.IsCalm core.old → result ≢ 5) }
+    ensures complete { (case : Case) (text : List ℕ) → case_of (texts words.now) ≡ Some case → H.bytes shelf.old (file_in case) ≡ Some text
+        → (H.calm shelf.old → result ≢ 3) × (K.calm out.old → result ≢ 4) × (IsCaseServed C.does case text → C.IsCalm core.old → result ≢ 5) }
 {
     match read_words(words) {
         None => report(note, USAGE, 2),
+        Some(Asked::Show { .. }) => {
+            let outcome = do_show(alloc, words, shelf, out, core);
+            finish(note, &outcome)
+        }
         Some(Asked::Play { .. }) => {
             let outcome = do_play(alloc, words, shelf, out, core);
             finish(note, &outcome)

@@ -7,6 +7,7 @@ ghost use Rattle.xheaac_tool.specs.Words.{case_of, texts};
 /// What the words ask for.
 #[derive(Clone, Copy)]
 pub enum Asked<'a> {
+    Show { file: &'a str },
     Play { file: &'a str },
 }
 
@@ -15,6 +16,9 @@ pub fn read_words<'a>(words: &'a [String]) -> Option<Asked<'a>>
     ensures { option_map asked result ≡ case_of (texts words.now) }
 {
     match words {
+        [command, file] if command.as_str() == "show" => Some(Asked::Show {
+            file: file.as_str(),
+        }),
         [command, file] if command.as_str() == "play" => Some(Asked::Play {
             file: file.as_str(),
         }),

@@ -1,7 +1,7 @@
 use Rattle.std.proofs.Common.{refl}
 use Rattle.std.proofs.lemmas.Result.{err_from_is_err_and}
-use Rattle.xheaac_tool.proofs.BuiltFrames.{is_built, none_read, none_zeros, none_first}
-use Rattle.xheaac_tool.proofs.built.read_frame.Goals as goal
+use Rattle.xheaac_tool.proofs.BuiltFrames.{is_canonical, none_read, none_zeros}
+use Rattle.xheaac_tool.proofs.canonical.read_frame.Goals as goal
 
 pub returns-in_err-frame-clause-none : goal.returns-in_err-frame-clause-none
 returns-in_err-frame-clause-none c =
@@ -11,10 +11,5 @@ returns-in_err-frame-clause-none c =
 pub returns-then-not-ends_in_zeros-clause-none : goal.returns-then-not-ends_in_zeros-clause-none
 returns-then-not-ends_in_zeros-clause-none c = λ _. none_zeros c.args.in_force c.args.body.now c.in_ok-frame.frame c.new-reader.result c.read_element.new.reader c.new-reader.ensures c.in_ok-frame.ensures (λ z. absurd (let h = c.if-not-ends_in_zeros.ensures.1 z in cc))
 
-pub returns-then-not-may_stand-clause-none : goal.returns-then-not-may_stand-clause-none
-returns-then-not-may_stand-clause-none c = λ _. none_first c.args.in_force c.args.body.now c.in_ok-frame.frame c.new-reader.result c.read_element.new.reader c.new-reader.ensures c.in_ok-frame.ensures
-    (λ h. let g = c.if-not-may_stand.ensures.1 (rw c.as_slice.ensures h) in cc)
-
 pub returns-clause-found : goal.returns-clause-found
-returns-clause-found c = is_built c.args.in_force c.args.body.now c.in_ok-frame.frame c.new-reader.result c.read_element.new.reader c.new-reader.ensures c.in_ok-frame.ensures
-    (c.if-not-ends_in_zeros.ensures.0 refl) (rw c.as_slice.ensures at (c.if-not-may_stand.ensures.0 refl))
+returns-clause-found c = is_canonical c.args.in_force c.args.body.now c.in_ok-frame.frame c.new-reader.result c.read_element.new.reader c.new-reader.ensures c.in_ok-frame.ensures (c.if-not-ends_in_zeros.ensures.0 refl)

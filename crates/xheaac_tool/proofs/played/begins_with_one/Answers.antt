@@ -1,6 +1,6 @@
 use Rattle.std.proofs.Common.{arith}
 use Rattle.xheaac_tool.proofs.BuiltFrames.{no_bytes_first, bytes_first}
-use Rattle.xheaac_tool.proofs.built.begins_with_one.Goals as goal
+use Rattle.xheaac_tool.proofs.played.begins_with_one.Goals as goal
 
 pub returns-in-empty : goal.returns-in-empty
 returns-in-empty c = no_bytes_first c.args.bytes.now c.in-empty.len_below

@@ -1,7 +1,7 @@
-use Rattle.std.proofs.Common.{◌≡◌, ◌+◌, ◌-◌, ◌*◌, ◌≤◌, length}
+use Rattle.std.proofs.Common.{◌≡◌, false, ◌+◌, ◌-◌, ◌*◌, ◌≤◌, length}
 use Rattle.xheaac_tool.specs.Reading.{most_bytes}
-use Rattle.xheaac_tool.specs.Playing.{GoesOn}
-use Rattle.xheaac_tool.proofs.play.play_source.Given as goal
+use Rattle.xheaac_tool.specs.Doing.{GoesOn}
+use Rattle.xheaac_tool.proofs.command.run_source.Given as goal
 
 abbrev pub invariant-frames : goal.invariant-frames
 invariant-frames g l =
@@ -9,7 +9,7 @@ invariant-frames g l =
     let sink = g.K.Sink in
     let core = g.C.Core in
     record {
-      so_far : GoesOn core.does (core.meaning l.initial.core) (core.meaning l.core) (source.left l.initial.source) (source.left l.source)
+      so_far : GoesOn (g.T.Task.job core.does) (core.meaning l.initial.core) (core.meaning l.core) (source.left l.initial.source) (source.left l.source)
           (sink.written l.initial.out) (sink.written l.out) l.reader l.count;
       within : l.reader.taken ≤ most_bytes;
       held : length l.reader.held ≤ l.reader.taken;
@@ -21,6 +21,7 @@ invariant-frames g l =
       calm_source : source.calm l.initial.source → source.calm l.source;
       calm_out : sink.calm l.initial.out → sink.calm l.out;
       calm_core : core.IsCalm l.initial.core → core.IsCalm l.core;
+      untouched : (g.T.Task.job core.does).command.feeds ≡ false → l.core ≡ l.initial.core;
     }
 
 abbrev pub decreases-frames : goal.decreases-frames

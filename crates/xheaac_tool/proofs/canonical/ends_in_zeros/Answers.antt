@@ -2,7 +2,7 @@ use Rattle.std.proofs.Common.{arith, eq-eqb, refl}
 use Rattle.std.proofs.lemmas.Bool.{eqb-true}
 use Rattle.layout.specs.Reader.{left}
 use Rattle.xheaac_tool.proofs.BuiltFrames.{zeros_left, left_zeros, zeros_few}
-use Rattle.xheaac_tool.proofs.built.ends_in_zeros.Goals as goal
+use Rattle.xheaac_tool.proofs.canonical.ends_in_zeros.Goals as goal
 
 pub returns-then-rest-ge8 : goal.returns-then-rest-ge8
 returns-then-rest-ge8 c = (λ h. absurd cc, λ z. absurd (let few = zeros_few (left c.args.reader.now) z in omega (arith, few, c.left-rest.ensures, c.if-rest-ge8.true)))

@@ -1,0 +1,186 @@
+// A command on the frames of one file.
+ghost use Rattle.std.specs.Prelude.{◌≡◌, ◌≢◌, ◌<◌, ◌≤◌, ◌+◌, ◌^◌, ℕ, List, [], false, Some, IsNone, IsSome, IsTrue};
+ghost use Rattle.std.specs.Io.KnownBytes.{prepend_known};
+ghost use Rattle.outside.specs.Other.{all_but};
+ghost use Rattle.xheaac_tool.specs.Causes.{Caused};
+ghost use Rattle.xheaac_tool.specs.Ending.{DoesFile, OfFile, remains_of};
+ghost use Rattle.xheaac_tool.specs.Doing.{DoesSource, IsNotBegun, IsRefusedAt, Becomes, BecomesOf};
+
+use crate::frame_end::FrameEnd;
+use crate::outcome::Outcome;
+use crate::reader::FrameReader;
+use crate::stream_end::StreamEnd;
+use crate::task::Task;
+use crate::texts;
+use core_iface::Core;
+use outside::{DeviceFault, FromShelf, Shelf, Sink, Source};
+use std::alloc::Global;
+
+/// The refusal of the frame with that number.
+fn refused(alloc: Global, frame: u64) -> Outcome
+    ensures { IsRefusedAt frame result }
+{
+    match texts::not_built(alloc, frame) {
+        Ok(text) => Outcome::Refused(text),
+        Err(error) => Outcome::Memory(error),
+    }
+}
+
+/// How the command ends where the stream has no next frame.
+fn ended_by(alloc: Global, end: StreamEnd, frame: u64) -> Outcome
+    ensures { Becomes end frame result }
+{
+    match end {
+        StreamEnd::ReadFault => Outcome::ReadFault,
+        StreamEnd::SyncLost | StreamEnd::Truncated | StreamEnd::TooLarge => refused(alloc, frame),
+        StreamEnd::Memory(error) => Outcome::Memory(error),
+    }
+}
+
+/// How the command ends at a frame that was not handled.
+fn stopped_by(alloc: Global, end: FrameEnd, frame: u64) -> Outcome
+    ensures { BecomesOf end frame result }
+{
+    match end {
+        FrameEnd::NotBuilt => refused(alloc, frame),
+        FrameEnd::WriteFault => Outcome::WriteFault,
+        FrameEnd::CoreFault => Outcome::CoreFault,
+        FrameEnd::Memory(error) => Outcome::Memory(error),
+    }
+}
+
+/// Handles the frames of a source, one after another.
+pub fn run_source<T: Task, S: Source, K: Sink, C: Core>(
+    alloc: Global,
+    source: &mut S,
+    out: &mut K,
+    core: &mut C,
+) -> Outcome
+    requires { (C.meaning core.old).fed ≤ 2 ^ 63 }
+    ensures does { DoesSource (T.job C.does) (C.meaning core.old).ready (S.left source.old) (S.left source.new)
+        (record {
+          written_before = K.written out.old;
+          written_after = K.written out.new;
+          fed_before = (C.meaning core.old).fed;
+          fed_after = (C.meaning core.new).fed;
+        }) result }
+    ensures caused { Caused
+        (record { shelf = S.faults source.old; out = K.faults out.old; core = (C.meaning core.old).faults })
+        (record { shelf = S.faults source.new; out = K.faults out.new; core = (C.meaning core.new).faults }) result }
+    ensures other { S.other source.new ≡ S.other source.old }
+    ensures calm_source { S.calm source.old → S.calm source.new }
+    ensures calm_out { K.calm out.old → K.calm out.new }
+    ensures calm_core { C.IsCalm core.old → C.IsCalm core.new }
+    ensures calm_reads { S.calm source.old → result ≢ Outcome.ReadFault }
+    ensures calm_writes { K.calm out.old → result ≢ Outcome.WriteFault }
+    ensures calm_decodes { (text : List ℕ) → S.left source.old ≡ Some text → OfFile (T.job C.does).command.takes (T.serves C.does) text → C.IsCalm core.old → result ≢ Outcome.CoreFault }
+    ensures untouched { (T.job C.does).command.feeds ≡ false → core.new ≡ core.old }
+    ensures no_core { (T.job C.does).command.feeds ≡ false → result ≢ Outcome.CoreFault }
+{
+    let mut reader = FrameReader::new(alloc);
+    let mut count: u64 = 0;
+    'frames: loop {
+        let length = match reader.next(source) {
+            Ok(Some(length)) => length,
+            Ok(None) => return Outcome::Done,
+            Err(end) => return ended_by(alloc, end, count),
+        };
+        match T::handle(alloc, reader.body(length), count > 0, out, core) {
+            Ok(()) => {}
+            Err(end) => return stopped_by(alloc, end, count),
+        }
+        reader.pass(length);
+        count += 1;
+    }
+}
+
+/// Handles the input of a shelf with that number.
+fn run_begun<T: Task, H: Shelf, K: Sink, C: Core>(
+    alloc: Global,
+    shelf: &mut H,
+    id: u32,
+    out: &mut K,
+    core: &mut C,
+) -> Outcome
+    requires begun { id < H.begun shelf.old }
+    requires fed { (C.meaning core.old).fed ≤ 2 ^ 63 }
+    ensures does { DoesSource (T.job C.does) (C.meaning core.old).ready (H.left shelf.old id) (H.left shelf.new id)
+        (record {
+          written_before = K.written out.old;
+          written_after = K.written out.new;
+          fed_before = (C.meaning core.old).fed;
+          fed_after = (C.meaning core.new).fed;
+        }) result }
+    ensures caused { Caused
+        (record { shelf = H.faults shelf.old; out = K.faults out.old; core = (C.meaning core.old).faults })
+        (record { shelf = H.faults shelf.new; out = K.faults out.new; core = (C.meaning core.new).faults }) result }
+    ensures begun { H.begun shelf.new ≡ H.begun shelf.old }
+    ensures names { H.bytes shelf.new ≡ H.bytes shelf.old }
+    ensures tells { H.tells shelf.new ≡ H.tells shelf.old }
+    ensures others { all_but id (H.left shelf.new) ≡ all_but id (H.left shelf.old) }
+    ensures calm_shelf { H.calm shelf.old → H.calm shelf.new }
+    ensures calm_out { K.calm out.old → K.calm out.new }
+    ensures calm_core { C.IsCalm core.old → C.IsCalm core.new }
+    ensures calm_reads { H.calm shelf.old → result ≢ Outcome.ReadFault }
+    ensures calm_writes { K.calm out.old → result ≢ Outcome.WriteFault }
+    ensures calm_decodes { (text : List ℕ) → H.left shelf.old id ≡ Some text → OfFile (T.job C.does).command.takes (T.serves C.does) text → C.IsCalm core.old → result ≢ Outcome.CoreFault }
+    ensures untouched { (T.job C.does).command.feeds ≡ false → core.new ≡ core.old }
+    ensures no_core { (T.job C.does).command.feeds ≡ false → result ≢ Outcome.CoreFault }
+{
+    let mut source = FromShelf::new(shelf, id);
+    run_source::<T, _, _, _>(alloc, &mut source, out, core)
+}
+
+/// Handles the frames of the file with that name.
+pub fn run_file<T: Task, H: Shelf, K: Sink, C: Core>(
+    alloc: Global,
+    name: &str,
+    shelf: &mut H,
+    out: &mut K,
+    core: &mut C,
+) -> Outcome
+    requires begun { H.begun shelf.old ≤ 2 ^ 31 }
+    requires fed { (C.meaning core.old).fed ≤ 2 ^ 63 }
+    ensures does { (text : List ℕ) → H.bytes shelf.old name.now ≡ Some text →
+        DoesFile (T.job C.does).command text (remains_of (H.begun shelf.old) (H.begun shelf.new) (H.left shelf.new (H.begun shelf.old)) (Some text))
+        (record {
+          written_before = K.written out.old;
+          written_after = K.written out.new;
+          fed_before = (C.meaning core.old).fed;
+          fed_after = (C.meaning core.new).fed;
+        }) result }
+    ensures taken { (taken : List ℕ)
+        × (H.bytes shelf.old name.now ≡ prepend_known taken (remains_of (H.begun shelf.old) (H.begun shelf.new) (H.left shelf.new (H.begun shelf.old)) (H.bytes shelf.old name.now)))
+        × DoesFile (T.job C.does).command taken (Some [])
+        (record {
+          written_before = K.written out.old;
+          written_after = K.written out.new;
+          fed_before = (C.meaning core.old).fed;
+          fed_after = (C.meaning core.new).fed;
+        }) result }
+    ensures missing { IsTrue (H.tells shelf.old) → IsNone (H.bytes shelf.old name.now) → IsNotBegun result × (out.new ≡ out.old) × (core.new ≡ core.old) }
+    ensures caused { Caused
+        (record { shelf = H.faults shelf.old; out = K.faults out.old; core = (C.meaning core.old).faults })
+        (record { shelf = H.faults shelf.new; out = K.faults out.new; core = (C.meaning core.new).faults }) result }
+    ensures begun { (H.begun shelf.old ≤ H.begun shelf.new) × (H.begun shelf.new ≤ H.begun shelf.old + 1) }
+    ensures begun_once { result ≡ Outcome.Done → H.begun shelf.new ≡ H.begun shelf.old + 1 }
+    ensures names { H.bytes shelf.new ≡ H.bytes shelf.old }
+    ensures tells { H.tells shelf.new ≡ H.tells shelf.old }
+    ensures others { (id : ℕ) → id < H.begun shelf.old → H.left shelf.new id ≡ H.left shelf.old id }
+    ensures calm_shelf { H.calm shelf.old → H.calm shelf.new }
+    ensures calm_out { K.calm out.old → K.calm out.new }
+    ensures calm_core { C.IsCalm core.old → C.IsCalm core.new }
+    ensures calm_reads { H.calm shelf.old → IsSome (H.bytes shelf.old name.now) → result ≢ Outcome.ReadFault }
+    ensures calm_writes { K.calm out.old → result ≢ Outcome.WriteFault }
+    ensures calm_decodes { (text : List ℕ) → H.bytes shelf.old name.now ≡ Some text → OfFile (T.job C.does).command.takes (T.serves C.does) text → C.IsCalm core.old → result ≢ Outcome.CoreFault }
+    ensures untouched { (T.job C.does).command.feeds ≡ false → core.new ≡ core.old }
+    ensures no_core { (T.job C.does).command.feeds ≡ false → result ≢ Outcome.CoreFault }
+{
+    T::gives_output::<C>();
+    let id = match shelf.begin(alloc, name) {
+        Ok(id) => id,
+        Err(DeviceFault::Failed) => return Outcome::ReadFault,
+        Err(DeviceFault::Memory(error)) => return Outcome::Memory(error),
+    };
+    run_begun::<T, _, _, _>(alloc, shelf, id, out, core)
+}
