@@ -1,5 +1,5 @@
 -- A configuration (ISO/IEC 23003-3, UsacConfig), and what its fields stand for.
-use Rattle.std.specs.Prelude.{◌≡◌, ℕ, ◌+◌, ◌^◌, ◌<◌, ◌≤◌, Bool, true, false, List, [], ◌∷◌, Option, Some, None, length, nat_lt, is_some, not, unwrap_or, ◌==◌, ◌||◌, if◌then◌else◌}
+use Rattle.std.specs.Prelude.{◌≡◌, ℕ, ◌^◌, ◌<◌, ◌≤◌, Bool, true, false, List, [], length, nat_lt, is_some, unwrap_or, ◌==◌, ◌||◌, if◌then◌else◌}
 use Rattle.std.specs.List.{AllByRecursion}
 use Rattle.tables.specs.Tables.{rates, frames, channels as channel_table, at_index}
 use Rattle.tables.specs.declared.frame.FrameShape.{FrameShape}

@@ -115,7 +115,12 @@ fn fields_and_lengths_are_those_of_the_rows(rt: HostRuntime) -> Result<(), Fail>
         assert_eq!(rt; found, indices, "{}", row.1);
         let found = (config.ratio(), config.frame_length(), config.channels());
         assert_eq!(rt; found, shape, "{}", row.1);
-        assert_eq!(rt; (config.rate_explicit, config.extensions.len()), (0, 0), "{}", row.1);
+        assert_eq!(rt;
+            (config.rate_explicit, config.extensions.len()),
+            (0, 0),
+            "{}",
+            row.1
+        );
     }
     Ok(())
 }
@@ -131,12 +136,14 @@ fn pairs_are_those_of_the_rows(rt: HostRuntime) -> Result<(), Fail> {
         assert_eq!(rt; config.positions.as_slice(), positions, "{}", row.1);
         assert_eq!(rt; config.elements.len(), 1, "{}", row.1);
         let found = match config.elements.get(0) {
-            Some(ElementConfig::Pair {
-                core,
-                sbr,
-                stereo,
-                mps,
-            }) => Some((*core, *sbr, *stereo, *mps)),
+            Some(
+                ElementConfig::Pair {
+                    core,
+                    sbr,
+                    stereo,
+                    mps,
+                },
+            ) => Some((*core, *sbr, *stereo, *mps)),
             _ => None,
         };
         assert_eq!(rt; found, Some(wanted), "{}", row.1);
