@@ -1,7 +1,7 @@
 -- The settings are read exactly.
-use Rattle.std.proofs.Common.{◌≡◌, ℕ, ◌<◌, Bool, Option, Some, None, refl, sym}
-use Rattle.std.specs.Prelude.{is_some, ◌==◌}
-use Rattle.layout.specs.Layout.{where_set, FitsOption}
+use Rattle.std.proofs.Common.{ℕ, ◌<◌, Bool, Option, Some, None, refl}
+use Rattle.std.specs.Prelude.{◌==◌}
+use Rattle.layout.specs.Layout.{FitsOption}
 use Rattle.layout.specs.Exact.{IsExact}
 use Rattle.layout.proofs.Layouts.{both-exact, shaped-exact, where_set-exact, same-exact}
 use Rattle.bit_core.specs.Plain.{bits, bit}

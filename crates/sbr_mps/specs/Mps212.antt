@@ -1,5 +1,5 @@
 -- The settings of MPEG Surround 2-1-2 (ISO/IEC 23003-3, Mps212Config).
-use Rattle.std.specs.Prelude.{◌≡◌, ℕ, ◌<◌, Bool, List, Option, is_some, ◌==◌, ◌||◌}
+use Rattle.std.specs.Prelude.{◌≡◌, ℕ, ◌<◌, Bool, List, is_some, ◌==◌, ◌||◌}
 use Rattle.layout.specs.Layout.{Layout, both, shaped, where_set, FitsOption}
 use Rattle.bit_core.specs.declared.faults.Short.{Short}
 use Rattle.bit_core.specs.Plain.{bits, bit}

@@ -1,5 +1,5 @@
 -- The settings of spectral band replication (ISO/IEC 23003-3, SbrConfig).
-use Rattle.std.specs.Prelude.{ℕ, ◌<◌, Bool, Option, is_some}
+use Rattle.std.specs.Prelude.{◌<◌, is_some}
 use Rattle.layout.specs.Layout.{Layout, both, shaped, where_set, FitsOption}
 use Rattle.bit_core.specs.declared.faults.Short.{Short}
 use Rattle.bit_core.specs.Plain.{bits, bit}

@@ -12,6 +12,8 @@ mod format;
 pub mod laws;
 mod mps;
 mod sbr;
+#[cfg(test)]
+mod tests;
 
 pub use core_config::CoreConfig;
 pub use mps::{Mps212, Residual};

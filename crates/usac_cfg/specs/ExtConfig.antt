@@ -1,5 +1,5 @@
 -- The configuration of an extension element (ISO/IEC 23003-3, UsacExtElementConfig).
-use Rattle.std.specs.Prelude.{ℕ, zero, suc, ◌+◌, ◌<◌, ◌≤◌, Bool, List, Option, Some, None, length, nat_lt}
+use Rattle.std.specs.Prelude.{ℕ, zero, suc, ◌+◌, ◌<◌, ◌≤◌, List, Option, Some, None, length, nat_lt}
 use Rattle.std.specs.List.{AllByRecursion}
 use Rattle.layout.specs.Layout.{Layout, both, shaped, wrapped, where_set}
 use Rattle.bit_core.specs.declared.faults.ReadFault.TheVariants as reads

@@ -14,6 +14,8 @@ mod faults;
 mod format;
 mod lists;
 mod reading;
+#[cfg(test)]
+mod tests;
 mod usac_config;
 mod writing;
 

@@ -1,11 +1,16 @@
-//! Worked rows as texts of hex digits, for tests: what a number or a stream is, and how it is spelled.
+//! Worked rows as texts of hex digits, for tests: what a number, a configuration or a stream is, and how it is spelled.
 #![tactic(auto)]
 
 mod bytes;
+mod configs;
 mod numbers;
 mod streams;
 
 pub use bytes::bytes_of;
+pub use configs::{
+    ConfigRow, FULL_CORE, FULL_MPS, FULL_PAIR, FULL_SBR, MONO, PREROLL, REFUSED, RefusedRow,
+    TWO_POSITIONS,
+};
 pub use numbers::{
     ESCAPED_2_4_0, ESCAPED_4_8_16, ESCAPED_8_16_0, LATM_VALUE_255, NumberRow, SLOT_LENGTHS,
 };
