@@ -1,9 +1,9 @@
 -- A stream that is read in pieces.
-use Rattle.std.proofs.Common.{◌≡◌, ℕ, zero, suc, ◌+◌, ◌<◌, ◌≤◌, List, [], ◌∷◌, ◌++◌, length, take, drop, flat_map, All, refl, sym, ap, subst, ◌∙◌, append_assoc, append-nil, arith, inl, inr, Result, Ok, Err, Some, None}
+use Rattle.std.proofs.Common.{◌≡◌, ℕ, zero, suc, get_or, ◌+◌, ◌<◌, ◌≤◌, List, [], ◌∷◌, ◌++◌, length, take, drop, flat_map, All, refl, sym, ap, subst, ◌∙◌, append_assoc, append-nil, arith, inl, inr, Result, Ok, Err, Some, None}
 use Rattle.std.specs.Prelude.{◌⊎◌}
 use Rattle.std.specs.declared.option.Option.{Option}
 use Rattle.std.proofs.lemmas.Grind.{flat_map-append}
-use Rattle.std.proofs.lemmas.List.{length-append}
+use Rattle.std.proofs.lemmas.List.{length-append, take_more}
 use Rattle.std.proofs.lemmas.List.Elements.{All-nil, All-cons, All-append}
 use Rattle.loas.specs.Framing.{framed, IsFrameBody, BeginsWithFrame, IsPartial, HasWrongSync, Splits, IsLongest}
 use Rattle.loas.specs.Framer.{Framer, grown}
@@ -142,20 +142,35 @@ no_begin held stuck e = elim e [
     | inr begins ↦ absurd (stuck_none held stuck _ _ (begins-fits begins.0 held begins.1) begins.1.spelled)
   ]
 
--- the end of the text, where nothing is at fault
-pub is_end-none : (text : List ℕ) (framer : Framer) (frames : List Framed) (done : Unit {0}) → (r : IsReadSoFar text framer frames) → EndsBy framer (Ok done) → IsEnd (length (flat_map framed r.given)) framer.held None
-is_end-none text framer frames done r e = no_begin framer.held r.stuck e
+-- the fault of a result, if any
+abbrev pub IsFaultOf : Result (Unit {0}) LoasFault → Option LoasFault → Type 0
+IsFaultOf (Ok done) None = Unit {0}
+IsFaultOf (Ok done) (Some fault) = ⊥
+IsFaultOf (Err fault) None = ⊥
+IsFaultOf (Err fault) (Some other) = other ≡ fault
 
-pub is_end-some : (text : List ℕ) (framer : Framer) (frames : List Framed) (fault : LoasFault) → (r : IsReadSoFar text framer frames) → EndsBy framer (Err fault) → IsEnd (length (flat_map framed r.given)) framer.held (Some fault)
-is_end-some text framer frames (SyncLost byte) r e = (e.0, e.1 ∙ r.has_given.passed)
-is_end-some text framer frames (Truncated byte) r e = (e.0, e.1, e.2 ∙ r.has_given.passed)
-is_end-some text framer frames (Memory error) r e = absurd e
+is_end : (text : List ℕ) (framer : Framer) (frames : List Framed) (r : IsReadSoFar text framer frames) (result : Result (Unit {0}) LoasFault) (fault : Option LoasFault) → EndsBy framer result → IsFaultOf result fault
+    → IsEnd (length (flat_map framed r.given)) framer.held fault
+is_end text framer frames r (Ok done) None e same = no_begin framer.held r.stuck e
+is_end text framer frames r (Ok done) (Some fault) e same = absurd same
+is_end text framer frames r (Err fault) None e same = absurd same
+is_end text framer frames r (Err (SyncLost byte)) (Some fault) e same = rw same (e.0, e.1 ∙ r.has_given.passed)
+is_end text framer frames r (Err (Truncated byte)) (Some fault) e same = rw same (e.0, e.1, e.2 ∙ r.has_given.passed)
+is_end text framer frames r (Err (Memory error)) (Some fault) e same = absurd e
 
-pub is_read : (text : List ℕ) (framer : Framer) (found : StreamFrames) (r : IsReadSoFar text framer found.frames.items) → IsEnd (length (flat_map framed r.given)) framer.held found.fault → IsRead text found
-is_read text framer found r end = record {
+-- the whole text, once its end is answered
+pub is_read : (text : List ℕ) (framer : Framer) (found : StreamFrames) (result : Result (Unit {0}) LoasFault) → IsReadSoFar text framer found.frames.items → EndsBy framer result → IsFaultOf result found.fault → IsRead text found
+is_read text framer found result r e same = record {
   bodies = r.given;
   rest = framer.held;
   longest = read_longest text framer found.frames.items r;
   frames = r.frames_are;
-  end = end;
+  end = is_end text framer found.frames.items r result found.fault e same;
 }
+
+-- one piece more
+pub joined-more : (pieces : List (List ℕ)) (i : ℕ) (piece other : List ℕ) → i < length pieces → piece ≡ get_or pieces i other → joined (take (i + 1) pieces) ≡ joined (take i pieces) ++ piece
+joined-more pieces i piece other h e =
+    ap joined (take_more pieces i other h)
+    ∙ flat_map-append (λ (x : List ℕ). x) (take i pieces) (get_or pieces i other ∷ [])
+    ∙ ap (λ (x : List ℕ). joined (take i pieces) ++ x) (append-nil (get_or pieces i other) ∙ sym e)
