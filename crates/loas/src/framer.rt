@@ -77,15 +77,15 @@ impl Loas {
         ensures few { result ≡ Ok None → length self.new.held ≤ 8193 }
         ensures err { OnErr result (self.new ≡ self.old) }
     {
+        let at = self.passed;
         match self.front() {
             Front::Frame(length) => {
-                let at = self.passed;
                 let element = Octets::copy_of(alloc, self.element(length))?;
                 self.pass(length);
                 Ok(Some(Framed { at, element }))
             }
             Front::Part => Ok(None),
-            Front::Lost => Err(LoasFault::SyncLost { byte: self.passed }),
+            Front::Lost => Err(LoasFault::SyncLost { byte: at }),
         }
     }
 
@@ -121,6 +121,13 @@ impl Loas {
         ensures { result ≡ self.now.passed }
     {
         self.passed
+    }
+
+    /// How many bytes were pushed in all.
+    pub fn pushed(&self) -> u64
+        ensures { result ≡ pushed self.now }
+    {
+        self.passed + (self.buffer.len() - self.at) as u64
     }
 
     /// The bytes behind the header of the frame at the front, of which there are `n`.
