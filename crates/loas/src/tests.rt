@@ -83,14 +83,15 @@ fn finds_the_frames(rt: HostRuntime) -> Result<(), Fail> {
     let alloc = rt.alloc();
     let whole = bytes_of(alloc, EIGHT_FRAMES)?;
     assert_eq!(rt; whole.len(), 61);
-    let front = &whole[..60];
+    let mut front = Vec::from_slice(alloc, &whole)?;
+    front.truncate(60);
     let mut lost = Vec::from_slice(alloc, &whole)?;
     lost[19] = 0x57;
     let longest = vec![in alloc; 0xFF; 8191]?;
     let mut long = Vec::from_slice(alloc, b"\x56\xFF\xFF")?;
     long.extend_from_slice(&longest)?;
     check(&rt, &whole, &FRAMES, End::Whole)?;
-    check(&rt, front, &FRAMES[..7], End::Truncated(55))?;
+    check(&rt, &front, &FRAMES[..7], End::Truncated(55))?;
     check(&rt, &lost, &FRAMES[..1], End::SyncLost(19))?;
     check(&rt, b"", &[], End::Whole)?;
     check(&rt, b"\x56", &[], End::Truncated(0))?;
