@@ -139,16 +139,16 @@ pub wrong_is : (text : List ℕ) → All (λ byte. byte < 256) text → cut_of t
 wrong_is [] bytes e = cc
 wrong_is (first ∷ []) bytes e = λ same. let w : Partial ≡ Lost = rw same at e in cc
 wrong_is (first ∷ second ∷ []) bytes e = elim (cases_lt second 224) [
-    | inl low ↦ inr (omega arith)
-    | inr high ↦ inl (λ same. let small : second < 256 = bytes 1 0 (omega arith) in let w : Partial ≡ Lost = grind (arith, nat_tests) in cc)
-  ]
+  | inl low ↦ inr (omega arith)
+  | inr high ↦ inl (λ same. let small : second < 256 = bytes 1 0 (omega arith) in let w : Partial ≡ Lost = grind (arith, nat_tests) in cc)
+]
 wrong_is (first ∷ second ∷ third ∷ text) bytes e = elim (cases_lt second 224) [
-    | inl low ↦ inr (omega arith)
-    | inr high ↦ inl (λ same.
-        let h : IsHeader first second third = record { sync = same; tail = high; high = bytes 1 0 (omega arith); low = bytes 2 0 (omega arith) } in
-        let w : cut_body ((second - 224) * 256 + third) text ≡ Lost = sym (cut-header first second third text h) ∙ e in
-        grind (arith, nat_tests))
-  ]
+  | inl low ↦ inr (omega arith)
+  | inr high ↦ inl (λ same.
+      let h : IsHeader first second third = record { sync = same; tail = high; high = bytes 1 0 (omega arith); low = bytes 2 0 (omega arith) } in
+      let w : cut_body ((second - 224) * 256 + third) text ≡ Lost = sym (cut-header first second third text h) ∙ e in
+      grind (arith, nat_tests))
+]
 
 -- A text begins with at most one frame.
 pub same_frame : (a x b y : List ℕ) → IsFrameBody a → IsFrameBody b → framed a ++ x ≡ framed b ++ y → (a ≡ b) × (x ≡ y)
@@ -192,9 +192,9 @@ some_front text bytes = of_cut (cut_of text) refl
 
 pub wrong_of_lost : (text : List ℕ) → All (λ byte. byte < 256) text → IsLost text → HasWrongSync text
 wrong_of_lost text bytes lost = elim (some_front text bytes) [
-    | inl begins ↦ absurd (lost.no_frame _ _ (omega (arith, begins.1.fits, length-take-le begins.0 (drop 3 text) (omega (arith, begins.1.long, length-drop 3 text)))) begins.1.spelled)
-    | inr other ↦ elim other [
-      | inl part ↦ absurd (lost.no_part part)
-      | inr wrong ↦ wrong
-    ]
+  | inl begins ↦ absurd (lost.no_frame _ _ (omega (arith, begins.1.fits, length-take-le begins.0 (drop 3 text) (omega (arith, begins.1.long, length-drop 3 text)))) begins.1.spelled)
+  | inr other ↦ elim other [
+    | inl part ↦ absurd (lost.no_part part)
+    | inr wrong ↦ wrong
   ]
+]

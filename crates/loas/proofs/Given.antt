@@ -1,17 +1,17 @@
 -- What a framer answers by what it holds is what it answers by all bytes that were pushed.
-use Rattle.std.proofs.Common.{◌≡◌, ℕ, zero, suc, ◌+◌, ◌<◌, ◌≤◌, List, [], ◌∷◌, ◌++◌, length, take, drop, flat_map, All, refl, sym, ap, subst, ◌∙◌, append_assoc, append-nil, arith, inl, inr, Result, Ok, Err, Some, None}
-use Rattle.std.specs.Prelude.{◌⊎◌, ◌↔◌, Bool, true, false, IsTrue}
+use Rattle.std.proofs.Common.{◌≡◌, ℕ, ◌+◌, ◌<◌, ◌≤◌, List, [], ◌∷◌, ◌++◌, length, take, drop, flat_map, refl, sym, ap, subst, ◌∙◌, append_assoc, append-nil, arith, inl, inr, Result, Ok, Err, Some, None}
+use Rattle.std.specs.Prelude.{◌↔◌, Bool, true, false, IsTrue}
 use Rattle.std.specs.declared.option.Option.{Option}
 use Rattle.std.proofs.lemmas.Grind.{flat_map-append}
 use Rattle.std.proofs.lemmas.List.{length-append, length-drop, length-take-le}
 use Rattle.loas.specs.Framing.{framed, IsFrameBody, BeginsWithFrame, IsPartial, HasWrongSync, Splits, IsLongest}
-use Rattle.loas.specs.Cut.{Whole, Partial, Lost, cut_of}
+use Rattle.loas.specs.Cut.{Partial, Lost}
 use Rattle.loas.specs.Framer.{Framer, grown, past_frame}
 use Rattle.loas.specs.Giving.{HasGiven, given_by, Gives, Ends, Takes, EndsBy}
 use Rattle.loas.specs.declared.framed.Framed.{Framed}
 use Rattle.loas.specs.declared.fault.LoasFault.{LoasFault}
 use Rattle.loas.specs.declared.fault.LoasFault.TheVariants.{SyncLost, Truncated, Memory}
-use Rattle.loas.proofs.Frames.{cut-framed, cut-partial, cut-lost}
+use Rattle.loas.proofs.Frames.{cut-partial, cut-lost}
 use Rattle.loas.proofs.Splitting.{splits-none, splits-cons, splits-append, splits-more, stuck_longest, first_of_longest, one_longest, partial_stuck, wrong_stuck}
 
 -- how many bytes stand behind the header of the frame that begins the text
@@ -50,16 +50,17 @@ pub given-past : (text : List ℕ) (given : List (List ℕ)) (n : ℕ) (framer :
     → HasGiven text (given ++ take n (drop 3 framer.held) ∷ []) (past_frame n framer)
 given-past text given n framer h b =
     given-frame text given framer (past_frame n framer) (take n (drop 3 framer.held)) h (begins-fits n framer.held b) b.spelled
-        (ap (λ (k : ℕ). framer.passed + (3 + k)) (sym (begins-length n framer.held b)))
+    (ap (λ (k : ℕ). framer.passed + (3 + k)) (sym (begins-length n framer.held b)))
 
 pub takes-frame : (n : ℕ) (framer : Framer) (frame : Framed) → BeginsWithFrame n framer.held → frame.at ≡ framer.passed → frame.element ≡ take n (drop 3 framer.held)
     → Takes framer (past_frame n framer) (Ok (Some frame))
 takes-frame n framer frame b at e =
-    let long = begins-length n framer.held b in
-    ( at
-    , subst IsFrameBody (sym e) (begins-fits n framer.held b)
-    , b.spelled ∙ ap (λ (t : List ℕ). framed t ++ drop (3 + n) framer.held) (sym e)
-    , ap (λ (k : ℕ). framer.passed + (3 + k)) (sym (ap (λ (t : List ℕ). length t) e ∙ long)) )
+    let long = begins-length n framer.held b in (
+      at,
+      subst IsFrameBody (sym e) (begins-fits n framer.held b),
+      b.spelled ∙ ap (λ (t : List ℕ). framed t ++ drop (3 + n) framer.held) (sym e),
+      ap (λ (k : ℕ). framer.passed + (3 + k)) (sym (ap (λ (t : List ℕ). length t) e ∙ long)),
+    )
 
 pub given-takes : (text : List ℕ) (given : List (List ℕ)) (old new : Framer) (result : Result (Option Framed) LoasFault) → Takes old new result → HasGiven text given old → HasGiven text (given ++ given_by result) new
 given-takes text given old new (Ok (Some frame)) t h = given-frame text given old new frame.element h t.1 t.2 t.3
@@ -97,9 +98,9 @@ partial-nil text e body behind fits f = let w : [] ≡ framed body ++ behind = s
 
 pub ends : (text : List ℕ) (given bodies : List (List ℕ)) (rest : List ℕ) (framer : Framer) (result : Result (Unit {0}) LoasFault) → EndsBy framer result → HasGiven text given framer → IsLongest text bodies rest → Ends given bodies rest result
 ends text given bodies rest framer (Ok done) t h l = elim t [
-    | inl none ↦ let all = all_given text given bodies rest framer h l (partial-nil framer.held none) in inr (all.0, sym all.1 ∙ none)
-    | inr frame ↦ inl (one_due text given bodies rest framer frame.0 h l frame.1)
-  ]
+  | inl none ↦ let all = all_given text given bodies rest framer h l (partial-nil framer.held none) in inr (all.0, sym all.1 ∙ none)
+  | inr frame ↦ inl (one_due text given bodies rest framer frame.0 h l frame.1)
+]
 ends text given bodies rest framer (Err (SyncLost byte)) t h l =
     let all = all_given text given bodies rest framer h l (wrong_stuck framer.held t.0) in
     (all.0, subst (λ (r : List ℕ). HasWrongSync r) all.1 t.0, t.1 ∙ h.passed ∙ ap (λ (bs : List (List ℕ)). length (flat_map framed bs)) all.0)
@@ -140,19 +141,25 @@ takes-lost old new (Err (Truncated byte)) t = absurd t
 takes-lost old new (Err (Memory error)) t = ((λ e. absurd (cc e)), (λ wrong. absurd (begins-not_wrong old.held t.1 t.2 wrong)))
 
 pub ends-lost : (framer : Framer) (result : Result (Unit {0}) LoasFault) → EndsBy framer result → (result ≡ Err (SyncLost framer.passed)) ↔ HasWrongSync framer.held
-ends-lost framer (Ok done) t = ((λ e. absurd (cc e)), (λ wrong. elim t [
+ends-lost framer (Ok done) t = (
+  (λ e. absurd (cc e)),
+  (λ wrong. elim t [
     | inl none ↦ absurd (subst (λ (r : List ℕ). HasWrongSync r) none wrong)
     | inr frame ↦ absurd (begins-not_wrong framer.held frame.0 frame.1 wrong)
-  ]))
+  ]),
+)
 ends-lost framer (Err (SyncLost byte)) t = ((λ e. t.0), (λ wrong. ap (λ (b : ℕ). Err (SyncLost b)) t.1))
 ends-lost framer (Err (Truncated byte)) t = ((λ e. absurd (cc e)), (λ wrong. absurd (partial-not_wrong framer.held t.0 wrong)))
 ends-lost framer (Err (Memory error)) t = absurd t
 
 pub ends-truncated : (framer : Framer) (result : Result (Unit {0}) LoasFault) → EndsBy framer result → (result ≡ Err (Truncated framer.passed)) ↔ (IsPartial framer.held × (0 < length framer.held))
-ends-truncated framer (Ok done) t = ((λ e. absurd (cc e)), (λ p. elim t [
+ends-truncated framer (Ok done) t = (
+  (λ e. absurd (cc e)),
+  (λ p. elim t [
     | inl none ↦ absurd (omega (arith, p.1, ap (λ (r : List ℕ). length r) none))
     | inr frame ↦ absurd (begins-not_partial framer.held frame.0 frame.1 p.0)
-  ]))
+  ]),
+)
 ends-truncated framer (Err (SyncLost byte)) t = ((λ e. absurd (cc e)), (λ p. absurd (partial-not_wrong framer.held p.0 t.0)))
 ends-truncated framer (Err (Truncated byte)) t = ((λ e. (t.0, t.1)), (λ p. ap (λ (b : ℕ). Err (Truncated b)) t.2))
 ends-truncated framer (Err (Memory error)) t = absurd t

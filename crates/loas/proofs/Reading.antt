@@ -1,11 +1,11 @@
 -- A stream that is read in pieces.
-use Rattle.std.proofs.Common.{◌≡◌, ℕ, zero, suc, get_or, ◌+◌, ◌<◌, ◌≤◌, List, [], ◌∷◌, ◌++◌, length, take, drop, flat_map, All, refl, sym, ap, subst, ◌∙◌, append_assoc, append-nil, arith, inl, inr, Result, Ok, Err, Some, None}
+use Rattle.std.proofs.Common.{◌≡◌, ℕ, get_or, ◌+◌, ◌<◌, List, [], ◌∷◌, ◌++◌, length, take, flat_map, refl, sym, ap, subst, ◌∙◌, append_assoc, append-nil, arith, inl, inr, Result, Ok, Err, Some, None}
 use Rattle.std.specs.Prelude.{◌⊎◌}
 use Rattle.std.specs.declared.option.Option.{Option}
 use Rattle.std.proofs.lemmas.Grind.{flat_map-append}
 use Rattle.std.proofs.lemmas.List.{length-append, take_more}
-use Rattle.std.proofs.lemmas.List.Elements.{All-nil, All-cons, All-append}
-use Rattle.loas.specs.Framing.{framed, IsFrameBody, BeginsWithFrame, IsPartial, HasWrongSync, Splits, IsLongest}
+use Rattle.std.proofs.lemmas.List.Elements.{All-nil, All-cons}
+use Rattle.loas.specs.Framing.{framed, IsFrameBody, BeginsWithFrame, HasWrongSync, Splits, IsLongest}
 use Rattle.loas.specs.Framer.{Framer, grown}
 use Rattle.loas.specs.Giving.{HasGiven, Takes, EndsBy}
 use Rattle.loas.specs.Pieces.{joined, frames_at, IsEnd, IsRead, IsStuck, TakesAll}
@@ -44,8 +44,8 @@ pub one_reading : (text : List ℕ) (one other : StreamFrames) → IsRead text o
 one_reading text one other p q =
     let same = one_longest text p.bodies q.bodies p.rest q.rest p.longest q.longest in
     let end : IsEnd (length (flat_map framed p.bodies)) p.rest other.fault =
-        subst (λ (bs : List (List ℕ)). IsEnd (length (flat_map framed bs)) p.rest other.fault) (sym same.0)
-            (subst (λ (r : List ℕ). IsEnd (length (flat_map framed q.bodies)) r other.fault) (sym same.1) q.end) in
+    subst (λ (bs : List (List ℕ)). IsEnd (length (flat_map framed bs)) p.rest other.fault) (sym same.0)
+    (subst (λ (r : List ℕ). IsEnd (length (flat_map framed q.bodies)) r other.fault) (sym same.1) q.end) in
     (p.frames ∙ ap (frames_at 0) same.0 ∙ sym q.frames, same_end _ p.rest one.fault other.fault p.end end)
 
 -- ---- taking all frames that are held
@@ -129,18 +129,18 @@ read-pushed text framer frames r =
 
 stuck_none : (held : List ℕ) → IsStuck held → HasNoFrame held
 stuck_none held stuck = elim stuck [
-    | inl part ↦ partial_stuck held part
-    | inr wrong ↦ wrong_stuck held wrong
-  ]
+  | inl part ↦ partial_stuck held part
+  | inr wrong ↦ wrong_stuck held wrong
+]
 
 pub read_longest : (text : List ℕ) (framer : Framer) (frames : List Framed) (r : IsReadSoFar text framer frames) → IsLongest text r.given framer.held
 read_longest text framer frames r = stuck_longest text r.given framer.held r.has_given.splits (stuck_none framer.held r.stuck)
 
 no_begin : (held : List ℕ) → IsStuck held → (held ≡ []) ⊎ ((n : ℕ) × BeginsWithFrame n held) → held ≡ []
 no_begin held stuck e = elim e [
-    | inl none ↦ none
-    | inr begins ↦ absurd (stuck_none held stuck _ _ (begins-fits begins.0 held begins.1) begins.1.spelled)
-  ]
+  | inl none ↦ none
+  | inr begins ↦ absurd (stuck_none held stuck _ _ (begins-fits begins.0 held begins.1) begins.1.spelled)
+]
 
 -- the fault of a result, if any
 abbrev pub IsFaultOf : Result (Unit {0}) LoasFault → Option LoasFault → Type 0

@@ -36,18 +36,15 @@ pub fn frames_of(alloc: Global, pieces: &[Octets]) -> Result<StreamFrames, Alloc
 }
 
 // Takes all frames that are held, behind those that were had.
-fn take_all(
-    alloc: Global,
-    framer: &mut Loas,
-    frames: &mut Vec<Framed>,
-) -> Result<(), AllocError>
+fn take_all(alloc: Global, framer: &mut Loas, frames: &mut Vec<Framed>) -> Result<(), AllocError>
     ensures { OnOk result (TakesAll framer.old framer.new frames.old.items frames.new.items) }
 {
     'frames: loop {
         match framer.next(alloc) {
             Ok(Some(frame)) => frames.push(frame)?,
-            Ok(None) | Err(LoasFault::SyncLost { .. } | LoasFault::Truncated { .. }) => return Ok(()),
+            Ok(None) => return Ok(()),
             Err(LoasFault::Memory(error)) => return Err(error),
+            Err(LoasFault::SyncLost { .. } | LoasFault::Truncated { .. }) => return Ok(()),
         }
     }
 }

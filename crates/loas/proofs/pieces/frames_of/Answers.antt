@@ -1,9 +1,9 @@
-use Rattle.std.proofs.Common.{◌≡◌, ◌+◌, List, ℕ, length, take, flat_map, ap, arith, rules, refl, sym, ◌∙◌, subst, Some, None}
+use Rattle.std.proofs.Common.{List, ℕ, length, ap, arith, refl, ◌∙◌}
 use Rattle.std.proofs.lemmas.List.{take_all}
 use Rattle.std.proofs.lemmas.List.Folds.{length-flat_map-take}
-use Rattle.loas.specs.Framer.{Framer, grown}
-use Rattle.loas.specs.Pieces.{joined, IsEnd, TakesAll}
-use Rattle.loas.proofs.Reading.{IsReadSoFar, read-none, read-more, read-pushed, is_read, joined-more, IsFaultOf}
+use Rattle.loas.specs.Framer.{grown}
+use Rattle.loas.specs.Pieces.{TakesAll}
+use Rattle.loas.proofs.Reading.{read-none, read-more, read-pushed, is_read, joined-more, IsFaultOf}
 use Rattle.loas.proofs.pieces.frames_of.Goals.{in-Ok, in-Err}
 use Rattle.loas.proofs.pieces.frames_of.Goals as goal
 
@@ -19,7 +19,7 @@ push-requires c =
 pub loop-piece-preserved : goal.loop-piece-preserved
 loop-piece-preserved c =
     let taken : TakesAll (grown c.loop-piece.framer c.as_slice.result.now) c.take_all.new.framer c.loop-piece.frames.items c.take_all.new.frames.items =
-        rw c.in_ok-push.ensures.ok at c.in_ok-take_all.ensures in
+    rw c.in_ok-push.ensures.ok at c.in_ok-take_all.ensures in
     let read = read-more _ c.loop-piece.framer c.take_all.new.framer c.as_slice.result.now c.loop-piece.frames.items c.take_all.new.frames.items c.loop-piece.invariant.read taken in
     let text = joined-more c.args.pieces.now c.loop-piece.piece-index c.as_slice.result.now c.piece-item.result c.loop-piece-test.true (c.as_slice.ensures ∙ c.piece-item.is) in
     record { read = rw text read }

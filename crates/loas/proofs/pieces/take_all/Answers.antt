@@ -1,5 +1,4 @@
-use Rattle.std.proofs.Common.{rules}
-use Rattle.loas.proofs.Reading.{so_far-none, so_far-more, takes_all}
+use Rattle.loas.proofs.Reading.{so_far-more}
 use Rattle.loas.proofs.pieces.take_all.Goals as goal
 
 pub frames-preserved : goal.frames-preserved

@@ -1,6 +1,4 @@
-use Rattle.std.proofs.Common.{◌≡◌, ◌<◌, length, rules, refl, Ok, Err, inl, inr, [], arith}
-use Rattle.std.proofs.lemmas.Grind.{common_steps}
-use Rattle.loas.specs.Giving.{EndsBy}
+use Rattle.std.proofs.Common.{◌≡◌, ◌<◌, length, rules, Ok, Err, inl, inr, []}
 use Rattle.loas.specs.declared.fault.LoasFault.TheVariants.{SyncLost, Truncated}
 use Rattle.loas.proofs.Given.{ends, some_bytes}
 use Rattle.loas.proofs.framer.Loas.end.Goals as goal

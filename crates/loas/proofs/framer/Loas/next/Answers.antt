@@ -1,8 +1,6 @@
-use Rattle.std.proofs.Common.{◌≡◌, rules, refl, Ok, Err, Some, None, arith}
-use Rattle.std.proofs.lemmas.Grind.{common_steps}
+use Rattle.std.proofs.Common.{◌≡◌, rules, refl, Ok, Err, Some, None}
 use Rattle.std.proofs.lemmas.Result.{err_from_is_err_and}
-use Rattle.loas.specs.Giving.{Takes}
-use Rattle.loas.specs.declared.fault.LoasFault.TheVariants.{SyncLost, Memory}
+use Rattle.loas.specs.declared.fault.LoasFault.TheVariants.{SyncLost}
 use Rattle.loas.proofs.Given.{gives, takes-frame, one_due, partial-few}
 use Rattle.loas.proofs.framer.Loas.next.Goals as goal
 
@@ -16,7 +14,7 @@ returns-in_ok-element-in-Frame-clause-gives c = λ text given bodies rest h l.
     let at : c.self.inside.passed ≡ c.args.self.now.passed = search rules in
     let e = c.in_ok-element-in-Frame.ensures in
     gives text given bodies rest c.args.self.now _ (Ok (Some (record { at = c.self.inside.passed; element = c.in_ok-element-in-Frame.element })))
-        (takes-frame c.in-Frame.length c.args.self.now _ c.in-Frame.ensures.stands at (search rules)) h l
+    (takes-frame c.in-Frame.length c.args.self.now _ c.in-Frame.ensures.stands at (search rules)) h l
 
 pub returns-in-Part-clause-gives : goal.returns-in-Part-clause-gives
 returns-in-Part-clause-gives c = λ text given bodies rest h l.

@@ -1,4 +1,4 @@
-use Rattle.std.proofs.Common.{◌≡◌, ◌+◌, ◌++◌, ◌∷◌, [], take, drop, rules, arith, subst, sym}
+use Rattle.std.proofs.Common.{◌≡◌, ◌+◌, ◌++◌, ◌∷◌, [], take, drop, arith, subst}
 use Rattle.std.proofs.lemmas.Grind.{common_steps}
 use Rattle.loas.specs.Framer.{Framer, past_frame}
 use Rattle.loas.specs.Giving.{HasGiven}

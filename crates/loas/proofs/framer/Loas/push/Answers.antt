@@ -1,4 +1,4 @@
-use Rattle.std.proofs.Common.{◌≡◌, rules, arith, subst, sym, OnOk, ◌++◌}
+use Rattle.std.proofs.Common.{◌≡◌, arith, subst, sym, OnOk, ◌++◌}
 use Rattle.std.proofs.lemmas.Result.{on_ok_weaker}
 use Rattle.std.proofs.lemmas.Grind.{common_steps}
 use Rattle.loas.specs.Framer.{Framer, grown}
