@@ -14,7 +14,7 @@ pub use configs::{
 pub use numbers::{
     ESCAPED_2_4_0, ESCAPED_4_8_16, ESCAPED_8_16_0, LATM_VALUE_255, NumberRow, SLOT_LENGTHS,
 };
-pub use streams::PLAIN;
+pub use streams::{EIGHT_FRAMES, PLAIN};
 
 #[cfg(test)]
 mod tests;

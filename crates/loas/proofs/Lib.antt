@@ -1,0 +1,4 @@
+pub mod Frames
+pub mod Splitting
+pub mod Given
+pub mod Reading
