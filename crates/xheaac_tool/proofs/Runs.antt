@@ -144,12 +144,12 @@ found_within k zero o text le = nothing_found k o text (partial_stuck k o text (
 found_within k (suc n) o text le =
     elim (each_text text) [
       | inl begins ↦
-          let k = begins.0 in
-          let body = take k (drop 3 text) in
-          let behind = drop (3 + k) text in
-          let fits : IsFrameBody body = begins-fits k text begins.1 in
+          let size = begins.0 in
+          let body = take size (drop 3 text) in
+          let behind = drop (3 + size) text in
+          let fits : IsFrameBody body = begins-fits size text begins.1 in
           elim (decided_frame k o body) [
-            | inl frame ↦ found_behind k o text body behind frame.0 fits begins.1.spelled frame.1 (found_within k n true behind (omega (arith, length-drop (3 + k) text, le)))
+            | inl frame ↦ found_behind k o text body behind frame.0 fits begins.1.spelled frame.1 (found_within k n true behind (omega (arith, length-drop (3 + size) text, le)))
             | inr none ↦ nothing_found k o text (unbuilt_here k o text body behind fits begins.1.spelled none)
           ]
       | inr other ↦ elim other [

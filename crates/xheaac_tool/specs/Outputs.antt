@@ -44,7 +44,7 @@ show_gives d ready text (frame ∷ frames) rest c = ap (λ (xs : List ℕ). let 
 
 -- ---- play
 
-both : (a b : Bool) → (a && b) ≡ true → (a ≡ true) × (b ≡ true)
+pub both : (a b : Bool) → (a && b) ≡ true → (a ≡ true) × (b ≡ true)
 both true true e = (refl, refl)
 both true false e = (refl, e)
 both false b e = absurd (let f : false ≡ true = e in cc)
