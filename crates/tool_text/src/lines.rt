@@ -1,0 +1,118 @@
+// The lines of a configuration.
+ghost use Rattle.std.specs.Prelude.{◌≡◌, ◌++◌, IfOk, OnOk};
+ghost use Rattle.usac_cfg.specs.UsacConfig.{IsWellFormed as IsUsacWellFormed, stream_id};
+ghost use Rattle.asc.specs.Asc.{IsWellFormed};
+ghost use Rattle.tool_text.specs.Lines.{explicit_of, asc_line, usac_line, positions_line, positions_lines, extension_line, extensions_from, lines_of};
+
+use crate::element_lines::push_elements;
+use crate::parts::{hex_or_dash, joined, number_or_dash};
+use asc::Asc;
+use bit_core::{Items, Octets};
+use std::alloc::{AllocError, Global};
+use usac_cfg::{ConfigExt, UsacConfig};
+
+/// The rate of an AudioSpecificConfig, where it is there.
+fn explicit_of(asc: &Asc) -> Option<u32>
+    ensures { result ≡ explicit_of asc.now }
+{
+    if asc.index == 15 {
+        Some(asc.explicit_rate)
+    } else {
+        None
+    }
+}
+
+fn asc_line(alloc: Global, asc: &Asc) -> Result<Octets, AllocError>
+    ensures { IfOk result (λ line. line ≡ asc_line asc.now) }
+{
+    let index = asc.index;
+    let rate = number_or_dash(alloc, explicit_of(asc))?;
+    let channels = asc.channels;
+    let tail = asc.tail.len();
+    let text = format!(in alloc; "asc index={index} rate={rate} channels={channels} tail={tail}\n")?;
+    Ok(Octets::from_vec(text.into_bytes()))
+}
+
+fn id_of(config: &UsacConfig) -> Option<u32>
+    ensures { result ≡ stream_id config.now }
+{
+    config.stream_id().map(u32::from)
+}
+
+fn usac_line(alloc: Global, config: &UsacConfig) -> Result<Octets, AllocError>
+    requires { IsUsacWellFormed config.now }
+    ensures { IfOk result (λ line. line ≡ usac_line config.now) }
+{
+    let rate = config.rate();
+    let frame = config.frame_length();
+    let channels = config.channels();
+    let elements = config.elements.len();
+    let extensions = config.extensions.len();
+    let id = number_or_dash(alloc, id_of(config))?;
+    let text = format!(in alloc; "usac rate={rate} frame={frame} channels={channels} elements={elements} extensions={extensions} id={id}\n")?;
+    Ok(Octets::from_vec(text.into_bytes()))
+}
+
+fn positions_line(alloc: Global, positions: &[u8]) -> Result<Octets, AllocError>
+    ensures { IfOk result (λ line. line ≡ positions_line positions.now) }
+{
+    let positions = joined(alloc, positions)?;
+    let text = format!(in alloc; "positions {positions}\n")?;
+    Ok(Octets::from_vec(text.into_bytes()))
+}
+
+fn push_positions(
+    alloc: Global,
+    config: &UsacConfig,
+    lines: &mut Items<Octets>,
+) -> Result<(), AllocError>
+    ensures { OnOk result (lines.new ≡ lines.old ++ positions_lines config.now) }
+{
+    if config.channel_index == 0 {
+        let line = positions_line(alloc, config.positions.as_slice())?;
+        lines.push(line)?;
+    }
+    Ok(())
+}
+
+fn extension_line(alloc: Global, i: u64, extension: &ConfigExt) -> Result<Octets, AllocError>
+    ensures { IfOk result (λ line. line ≡ extension_line i extension.now) }
+{
+    let kind = extension.kind;
+    let bytes = hex_or_dash(alloc, extension.bytes.as_slice())?;
+    let text = format!(in alloc; "extension {i} type={kind} bytes={bytes}\n")?;
+    Ok(Octets::from_vec(text.into_bytes()))
+}
+
+fn push_extensions(
+    alloc: Global,
+    extensions: &[ConfigExt],
+    lines: &mut Items<Octets>,
+) -> Result<(), AllocError>
+    ensures { OnOk result (lines.new ≡ lines.old ++ extensions_from 0 extensions.now) }
+{
+    for i in 0..extensions.len() {
+        let line = extension_line(alloc, i as u64, &extensions[i])?;
+        lines.push(line)?;
+    }
+    Ok(())
+}
+
+/// The lines of a well formed configuration, each with its line feed: the one of AudioSpecificConfig, the one of UsacConfig,
+/// the one of the channel positions where these are there, those of each element, and one for each extension.
+///
+/// Errors: want of memory.
+pub fn configuration_lines(alloc: Global, asc: &Asc) -> Result<Items<Octets>, AllocError>
+    requires { IsWellFormed asc.now }
+    ensures { IfOk result (λ lines. lines ≡ lines_of asc.now) }
+{
+    let mut lines = Items::new(alloc);
+    let first = asc_line(alloc, asc)?;
+    lines.push(first)?;
+    let second = usac_line(alloc, &asc.usac)?;
+    lines.push(second)?;
+    push_positions(alloc, &asc.usac, &mut lines)?;
+    push_elements(alloc, asc.usac.elements.as_slice(), &mut lines)?;
+    push_extensions(alloc, asc.usac.extensions.as_slice(), &mut lines)?;
+    Ok(lines)
+}

@@ -1,0 +1,86 @@
+// The lines of the settings of an element.
+ghost use Rattle.std.specs.Prelude.{◌≡◌, IfOk};
+ghost use Rattle.std.specs.String.{string_bytes};
+ghost use Rattle.tool_text.specs.SbrMps.{freq_text, limit_text, residual_text, sbr_line, mps_line};
+
+use crate::parts::{dash, digit, number_or_dash, truth_or_dash};
+use bit_core::Octets;
+use sbr_mps::{Mps212, Residual, SbrConfig, SbrFreq, SbrLimit};
+use std::alloc::{AllocError, Global};
+
+fn freq_text(alloc: Global, freq: Option<SbrFreq>) -> Result<String, AllocError>
+    ensures { IfOk result (λ text. string_bytes text ≡ freq_text freq) }
+{
+    let Some(freq) = freq else {
+        return dash(alloc);
+    };
+    let scale = freq.scale;
+    let alter = digit(freq.alter);
+    let noise_bands = freq.noise_bands;
+    let text = format!(in alloc; "{scale},{alter},{noise_bands}")?;
+    Ok(text)
+}
+
+fn limit_text(alloc: Global, limit: Option<SbrLimit>) -> Result<String, AllocError>
+    ensures { IfOk result (λ text. string_bytes text ≡ limit_text limit) }
+{
+    let Some(limit) = limit else {
+        return dash(alloc);
+    };
+    let bands = limit.bands;
+    let gains = limit.gains;
+    let interpol = digit(limit.interpol);
+    let smoothing = digit(limit.smoothing);
+    let text = format!(in alloc; "{bands},{gains},{interpol},{smoothing}")?;
+    Ok(text)
+}
+
+/// The line of the SBR settings.
+pub fn sbr_line(alloc: Global, value: &SbrConfig) -> Result<Octets, AllocError>
+    ensures { IfOk result (λ line. line ≡ sbr_line value.now) }
+{
+    let harmonic = digit(value.harmonic);
+    let tes = digit(value.inter_tes);
+    let pvc = digit(value.pvc);
+    let start = value.start;
+    let stop = value.stop;
+    let extra1 = freq_text(alloc, value.extra1)?;
+    let extra2 = limit_text(alloc, value.extra2)?;
+    let text = format!(in alloc; "sbr harmonic={harmonic} tes={tes} pvc={pvc} start={start} stop={stop} extra1={extra1} extra2={extra2}\n")?;
+    Ok(Octets::from_vec(text.into_bytes()))
+}
+
+fn residual_text(alloc: Global, residual: Option<Residual>) -> Result<String, AllocError>
+    ensures { IfOk result (λ text. string_bytes text ≡ residual_text residual) }
+{
+    let Some(residual) = residual else {
+        return dash(alloc);
+    };
+    let bands = residual.bands;
+    let pseudo_lr = digit(residual.pseudo_lr);
+    let text = format!(in alloc; "{bands},{pseudo_lr}")?;
+    Ok(text)
+}
+
+fn ott_of(value: &Mps212) -> Option<u32>
+    ensures { result ≡ value.now.ott_phase }
+{
+    value.ott_phase.map(u32::from)
+}
+
+/// The line of the MPEG Surround settings.
+pub fn mps_line(alloc: Global, value: &Mps212) -> Result<Octets, AllocError>
+    ensures { IfOk result (λ line. line ≡ mps_line value.now) }
+{
+    let freq = value.freq_res;
+    let gain = value.fixed_gain;
+    let shape = value.temp_shape;
+    let decorr = value.decorr;
+    let high = digit(value.high_rate);
+    let phase = digit(value.phase_coding);
+    let ott = number_or_dash(alloc, ott_of(value))?;
+    let residual = residual_text(alloc, value.residual)?;
+    let quant = truth_or_dash(alloc, value.env_quant)?;
+    let text = format!(in alloc; "mps freq={freq} gain={gain} shape={shape} decorr={decorr} high={high} phase={phase} ott={ott} residual={residual} quant={quant}\n")?;
+    Ok(Octets::from_vec(text.into_bytes()))
+}
