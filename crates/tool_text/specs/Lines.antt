@@ -16,11 +16,13 @@ abbrev pub asc_line : Asc → List ℕ
 asc_line v = codes "asc index=" & decimal v.index & codes " rate=" & number_or_dash (explicit_of v)
     & codes " channels=" & decimal v.channels & codes " tail=" & decimal (length v.tail) & codes "\n"
 
--- UsacConfig (ISO/IEC 23003-3): the rate, the length of a frame and the channels of the output, how many elements and
--- extensions there are, and the identifier of the stream
+-- the rate of the output, the length of its frames, and its channels
+abbrev pub output_text : UsacConfig → List ℕ
+output_text c = codes "rate=" & decimal (rate c) & codes " frame=" & decimal (frame_length c) & codes " channels=" & decimal (channels c)
+
+-- UsacConfig (ISO/IEC 23003-3): its output, how many elements and extensions it has, and the identifier of the stream
 abbrev pub usac_line : UsacConfig → List ℕ
-usac_line c = codes "usac rate=" & decimal (rate c) & codes " frame=" & decimal (frame_length c)
-    & codes " channels=" & decimal (channels c) & codes " elements=" & decimal (length c.elements)
+usac_line c = codes "usac " & output_text c & codes " elements=" & decimal (length c.elements)
     & codes " extensions=" & decimal (length c.extensions) & codes " id=" & number_or_dash (stream_id c) & codes "\n"
 
 -- bsOutputChannelPos of each channel

@@ -17,9 +17,13 @@ abbrev pub limit_text : Option SbrLimit → List ℕ
 limit_text None = dash
 limit_text (Some v) = decimal v.bands & codes "," & decimal v.gains & codes "," & truth v.interpol & codes "," & truth v.smoothing
 
+-- harmonicSBR, bs_interTes, bs_pvc
+abbrev pub tools_text : SbrConfig → List ℕ
+tools_text v = codes "harmonic=" & truth v.harmonic & codes " tes=" & truth v.inter_tes & codes " pvc=" & truth v.pvc
+
+-- the tools, dflt_start_freq, dflt_stop_freq, and the parts that dflt_header_extra1 and dflt_header_extra2 announce
 abbrev pub sbr_line : SbrConfig → List ℕ
-sbr_line v = codes "sbr harmonic=" & truth v.harmonic & codes " tes=" & truth v.inter_tes & codes " pvc=" & truth v.pvc
-    & codes " start=" & decimal v.start & codes " stop=" & decimal v.stop
+sbr_line v = codes "sbr " & tools_text v & codes " start=" & decimal v.start & codes " stop=" & decimal v.stop
     & codes " extra1=" & freq_text v.extra1 & codes " extra2=" & limit_text v.extra2 & codes "\n"
 
 -- bsResidualBands, bsPseudoLr; one dash where they are absent
@@ -27,8 +31,12 @@ abbrev pub residual_text : Option Residual → List ℕ
 residual_text None = dash
 residual_text (Some v) = decimal v.bands & codes "," & truth v.pseudo_lr
 
-abbrev pub mps_line : Mps212 → List ℕ
-mps_line v = codes "mps freq=" & decimal v.freq_res & codes " gain=" & decimal v.fixed_gain & codes " shape=" & decimal v.temp_shape
+-- what is always there: bsFreqRes, bsFixedGainDMX, bsTempShapeConfig, bsDecorrConfig, bsHighRateMode, bsPhaseCoding
+abbrev pub fixed_text : Mps212 → List ℕ
+fixed_text v = codes "freq=" & decimal v.freq_res & codes " gain=" & decimal v.fixed_gain & codes " shape=" & decimal v.temp_shape
     & codes " decorr=" & decimal v.decorr & codes " high=" & truth v.high_rate & codes " phase=" & truth v.phase_coding
-    & codes " ott=" & number_or_dash v.ott_phase & codes " residual=" & residual_text v.residual
-    & codes " quant=" & truth_or_dash v.env_quant & codes "\n"
+
+-- that, and what may be absent: bsOttBandsPhase, the residual, bsEnvQuantMode
+abbrev pub mps_line : Mps212 → List ℕ
+mps_line v = codes "mps " & fixed_text v & codes " ott=" & number_or_dash v.ott_phase
+    & codes " residual=" & residual_text v.residual & codes " quant=" & truth_or_dash v.env_quant & codes "\n"

@@ -1,8 +1,9 @@
 // The lines of a configuration.
 ghost use Rattle.std.specs.Prelude.{◌≡◌, ◌++◌, IfOk, OnOk};
+ghost use Rattle.std.specs.String.{string_bytes};
 ghost use Rattle.usac_cfg.specs.UsacConfig.{IsWellFormed as IsUsacWellFormed, stream_id};
 ghost use Rattle.asc.specs.Asc.{IsWellFormed};
-ghost use Rattle.tool_text.specs.Lines.{explicit_of, asc_line, usac_line, positions_line, positions_lines, extension_line, extensions_from, lines_of};
+ghost use Rattle.tool_text.specs.Lines.{explicit_of, asc_line, output_text, usac_line, positions_line, positions_lines, extension_line, extensions_from, lines_of};
 
 use crate::element_lines::push_elements;
 use crate::parts::{hex_or_dash, joined, number_or_dash};
@@ -29,7 +30,9 @@ fn asc_line(alloc: Global, asc: &Asc) -> Result<Octets, AllocError>
     let rate = number_or_dash(alloc, explicit_of(asc))?;
     let channels = asc.channels;
     let tail = asc.tail.len();
-    let text = format!(in alloc; "asc index={index} rate={rate} channels={channels} tail={tail}\n")?;
+    let text = format!(in alloc;
+        "asc index={index} rate={rate} channels={channels} tail={tail}\n"
+    )?;
     Ok(Octets::from_vec(text.into_bytes()))
 }
 
@@ -39,17 +42,28 @@ fn id_of(config: &UsacConfig) -> Option<u32>
     config.stream_id().map(u32::from)
 }
 
-fn usac_line(alloc: Global, config: &UsacConfig) -> Result<Octets, AllocError>
+fn output_text(alloc: Global, config: &UsacConfig) -> Result<String, AllocError>
     requires { IsUsacWellFormed config.now }
-    ensures { IfOk result (λ line. line ≡ usac_line config.now) }
+    ensures { IfOk result (λ text. string_bytes text ≡ output_text config.now) }
 {
     let rate = config.rate();
     let frame = config.frame_length();
     let channels = config.channels();
+    let text = format!(in alloc; "rate={rate} frame={frame} channels={channels}")?;
+    Ok(text)
+}
+
+fn usac_line(alloc: Global, config: &UsacConfig) -> Result<Octets, AllocError>
+    requires { IsUsacWellFormed config.now }
+    ensures { IfOk result (λ line. line ≡ usac_line config.now) }
+{
+    let output = output_text(alloc, config)?;
     let elements = config.elements.len();
     let extensions = config.extensions.len();
     let id = number_or_dash(alloc, id_of(config))?;
-    let text = format!(in alloc; "usac rate={rate} frame={frame} channels={channels} elements={elements} extensions={extensions} id={id}\n")?;
+    let text = format!(in alloc;
+        "usac {output} elements={elements} extensions={extensions} id={id}\n"
+    )?;
     Ok(Octets::from_vec(text.into_bytes()))
 }
 

@@ -49,11 +49,7 @@ pub fn hex_or_dash(alloc: Global, bytes: &[u8]) -> Result<String, AllocError>
 }
 
 /// Adds the numbers, each behind a comma.
-fn push_behind_commas(
-    alloc: Global,
-    numbers: &[u8],
-    text: &mut String,
-) -> Result<(), AllocError>
+fn push_behind_commas(alloc: Global, numbers: &[u8], text: &mut String) -> Result<(), AllocError>
     ensures { OnOk result (string_bytes text.new ≡ string_bytes text.old ++ behind_commas numbers.now) }
 {
     for number in numbers {
