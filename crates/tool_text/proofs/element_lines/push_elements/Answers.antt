@@ -1,4 +1,4 @@
-use Rattle.std.proofs.Common.{◌≡◌, ◌++◌, refl, ◌∙◌}
+use Rattle.std.proofs.Common.{refl, ◌∙◌}
 use Rattle.tool_text.specs.Elements.{lines_of_element, elements_from}
 use Rattle.tool_text.proofs.Numbered.{one_more, at_end}
 use Rattle.tool_text.proofs.element_lines.push_elements.Goals as goal

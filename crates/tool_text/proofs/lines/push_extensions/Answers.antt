@@ -1,4 +1,4 @@
-use Rattle.std.proofs.Common.{◌≡◌, [], ◌∷◌, ◌++◌, refl, ◌∙◌}
+use Rattle.std.proofs.Common.{[], ◌∷◌, refl, ◌∙◌}
 use Rattle.tool_text.specs.Lines.{extension_line, extensions_from}
 use Rattle.tool_text.proofs.Numbered.{one_more, at_end}
 use Rattle.tool_text.proofs.lines.push_extensions.Goals as goal
