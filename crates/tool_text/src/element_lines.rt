@@ -16,8 +16,7 @@ fn core_text(alloc: Global, core: &CoreConfig) -> Result<String, AllocError>
 {
     let tw = digit(core.tw_mdct);
     let nf = digit(core.noise_filling);
-    let text = format!(in alloc; "tw={tw} nf={nf}")?;
-    Ok(text)
+    format!(in alloc; "tw={tw} nf={nf}")
 }
 
 /// The default length, where one is coded.
@@ -38,8 +37,7 @@ fn ext_text(alloc: Global, ext: &ExtConfig) -> Result<String, AllocError>
     let default = number_or_dash(alloc, default_of(ext))?;
     let frag = digit(ext.frag);
     let config = hex_or_dash(alloc, ext.bytes.as_slice())?;
-    let text = format!(in alloc; "type={kind} default={default} frag={frag} config={config}")?;
-    Ok(text)
+    format!(in alloc; "type={kind} default={default} frag={frag} config={config}")
 }
 
 /// What the line of an element says behind its number.
@@ -64,7 +62,7 @@ fn element_text(alloc: Global, element: &ElementConfig) -> Result<String, AllocE
     }
 }
 
-fn element_line(alloc: Global, i: u64, element: &ElementConfig) -> Result<Octets, AllocError>
+fn element_line(alloc: Global, i: usize, element: &ElementConfig) -> Result<Octets, AllocError>
     ensures { IfOk result (λ line. line ≡ element_line i element.now) }
 {
     let element = element_text(alloc, element)?;
@@ -122,7 +120,7 @@ fn push_mps(
 /// Adds the line of an element and those of its settings.
 fn push_element(
     alloc: Global,
-    i: u64,
+    i: usize,
     element: &ElementConfig,
     lines: &mut Items<Octets>,
 ) -> Result<(), AllocError>
@@ -144,7 +142,7 @@ pub fn push_elements(
     ensures { OnOk result (lines.new ≡ lines.old ++ elements_from 0 elements.now) }
 {
     for i in 0..elements.len() {
-        push_element(alloc, i as u64, &elements[i], lines)?;
+        push_element(alloc, i, &elements[i], lines)?;
     }
     Ok(())
 }

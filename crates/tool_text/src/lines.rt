@@ -1,7 +1,7 @@
 // The lines of a configuration.
 ghost use Rattle.std.specs.Prelude.{◌≡◌, ◌++◌, IfOk, OnOk};
 ghost use Rattle.std.specs.String.{string_bytes};
-ghost use Rattle.usac_cfg.specs.UsacConfig.{IsWellFormed as IsUsacWellFormed, stream_id};
+ghost use Rattle.usac_cfg.specs.UsacConfig.{IsWellFormed as IsUsacWellFormed};
 ghost use Rattle.asc.specs.Asc.{IsWellFormed};
 ghost use Rattle.tool_text.specs.Lines.{explicit_of, asc_line, output_text, usac_line, positions_line, positions_lines, extension_line, extensions_from, lines_of};
 
@@ -36,12 +36,6 @@ fn asc_line(alloc: Global, asc: &Asc) -> Result<Octets, AllocError>
     Ok(Octets::from_vec(text.into_bytes()))
 }
 
-fn id_of(config: &UsacConfig) -> Option<u32>
-    ensures { result ≡ stream_id config.now }
-{
-    config.stream_id().map(u32::from)
-}
-
 fn output_text(alloc: Global, config: &UsacConfig) -> Result<String, AllocError>
     requires { IsUsacWellFormed config.now }
     ensures { IfOk result (λ text. string_bytes text ≡ output_text config.now) }
@@ -49,8 +43,7 @@ fn output_text(alloc: Global, config: &UsacConfig) -> Result<String, AllocError>
     let rate = config.rate();
     let frame = config.frame_length();
     let channels = config.channels();
-    let text = format!(in alloc; "rate={rate} frame={frame} channels={channels}")?;
-    Ok(text)
+    format!(in alloc; "rate={rate} frame={frame} channels={channels}")
 }
 
 fn usac_line(alloc: Global, config: &UsacConfig) -> Result<Octets, AllocError>
@@ -60,7 +53,7 @@ fn usac_line(alloc: Global, config: &UsacConfig) -> Result<Octets, AllocError>
     let output = output_text(alloc, config)?;
     let elements = config.elements.len();
     let extensions = config.extensions.len();
-    let id = number_or_dash(alloc, id_of(config))?;
+    let id = number_or_dash(alloc, config.stream_id().map(u32::from))?;
     let text = format!(in alloc;
         "usac {output} elements={elements} extensions={extensions} id={id}\n"
     )?;
@@ -89,7 +82,7 @@ fn push_positions(
     Ok(())
 }
 
-fn extension_line(alloc: Global, i: u64, extension: &ConfigExt) -> Result<Octets, AllocError>
+fn extension_line(alloc: Global, i: usize, extension: &ConfigExt) -> Result<Octets, AllocError>
     ensures { IfOk result (λ line. line ≡ extension_line i extension.now) }
 {
     let kind = extension.kind;
@@ -106,7 +99,7 @@ fn push_extensions(
     ensures { OnOk result (lines.new ≡ lines.old ++ extensions_from 0 extensions.now) }
 {
     for i in 0..extensions.len() {
-        let line = extension_line(alloc, i as u64, &extensions[i])?;
+        let line = extension_line(alloc, i, &extensions[i])?;
         lines.push(line)?;
     }
     Ok(())
@@ -116,6 +109,14 @@ fn push_extensions(
 /// the one of the channel positions where these are there, those of each element, and one for each extension.
 ///
 /// Errors: want of memory.
+///
+/// ```text
+/// asc index=3 rate=- channels=1 tail=0
+/// usac rate=48000 frame=1024 channels=1 elements=2 extensions=1 id=1
+/// element 0 ext type=3 default=- frag=0 config=-
+/// element 1 single tw=0 nf=1
+/// extension 0 type=7 bytes=0001
+/// ```
 pub fn configuration_lines(alloc: Global, asc: &Asc) -> Result<Items<Octets>, AllocError>
     requires { IsWellFormed asc.now }
     ensures { IfOk result (λ lines. lines ≡ lines_of asc.now) }

@@ -17,8 +17,7 @@ fn freq_text(alloc: Global, freq: Option<SbrFreq>) -> Result<String, AllocError>
     let scale = freq.scale;
     let alter = digit(freq.alter);
     let noise_bands = freq.noise_bands;
-    let text = format!(in alloc; "{scale},{alter},{noise_bands}")?;
-    Ok(text)
+    format!(in alloc; "{scale},{alter},{noise_bands}")
 }
 
 fn limit_text(alloc: Global, limit: Option<SbrLimit>) -> Result<String, AllocError>
@@ -31,8 +30,7 @@ fn limit_text(alloc: Global, limit: Option<SbrLimit>) -> Result<String, AllocErr
     let gains = limit.gains;
     let interpol = digit(limit.interpol);
     let smoothing = digit(limit.smoothing);
-    let text = format!(in alloc; "{bands},{gains},{interpol},{smoothing}")?;
-    Ok(text)
+    format!(in alloc; "{bands},{gains},{interpol},{smoothing}")
 }
 
 fn tools_text(alloc: Global, value: &SbrConfig) -> Result<String, AllocError>
@@ -41,8 +39,7 @@ fn tools_text(alloc: Global, value: &SbrConfig) -> Result<String, AllocError>
     let harmonic = digit(value.harmonic);
     let tes = digit(value.inter_tes);
     let pvc = digit(value.pvc);
-    let text = format!(in alloc; "harmonic={harmonic} tes={tes} pvc={pvc}")?;
-    Ok(text)
+    format!(in alloc; "harmonic={harmonic} tes={tes} pvc={pvc}")
 }
 
 /// The line of the SBR settings.
@@ -68,14 +65,7 @@ fn residual_text(alloc: Global, residual: Option<Residual>) -> Result<String, Al
     };
     let bands = residual.bands;
     let pseudo_lr = digit(residual.pseudo_lr);
-    let text = format!(in alloc; "{bands},{pseudo_lr}")?;
-    Ok(text)
-}
-
-fn ott_of(value: &Mps212) -> Option<u32>
-    ensures { result ≡ value.now.ott_phase }
-{
-    value.ott_phase.map(u32::from)
+    format!(in alloc; "{bands},{pseudo_lr}")
 }
 
 /// The settings that are always there.
@@ -88,10 +78,9 @@ fn fixed_text(alloc: Global, value: &Mps212) -> Result<String, AllocError>
     let decorr = value.decorr;
     let high = digit(value.high_rate);
     let phase = digit(value.phase_coding);
-    let text = format!(in alloc;
+    format!(in alloc;
         "freq={freq} gain={gain} shape={shape} decorr={decorr} high={high} phase={phase}"
-    )?;
-    Ok(text)
+    )
 }
 
 /// The line of the MPEG Surround settings.
@@ -99,7 +88,7 @@ pub fn mps_line(alloc: Global, value: &Mps212) -> Result<Octets, AllocError>
     ensures { IfOk result (λ line. line ≡ mps_line value.now) }
 {
     let fixed = fixed_text(alloc, value)?;
-    let ott = number_or_dash(alloc, ott_of(value))?;
+    let ott = number_or_dash(alloc, value.ott_phase.map(u32::from))?;
     let residual = residual_text(alloc, value.residual)?;
     let quant = truth_or_dash(alloc, value.env_quant)?;
     let text = format!(in alloc; "mps {fixed} ott={ott} residual={residual} quant={quant}\n")?;
