@@ -1,1 +1,4 @@
+pub mod Parts
+pub mod SbrMps
+pub mod Elements
 pub mod Lines

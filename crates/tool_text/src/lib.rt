@@ -1,18 +1,14 @@
-//! A stub.
+//! The lines that tell a configuration to a reader, each with its line feed: AudioSpecificConfig (ISO/IEC 14496-3), and the
+//! UsacConfig in it (ISO/IEC 23003-3) with its elements and extensions.
+//!
+//! Numbers are decimal, truth values are 0 or 1, bytes are lower-case hex, and a dash stands for what is absent or empty.
 #![tactic(auto)]
 
-ghost use Rattle.std.specs.Prelude.{◌≡◌, IfOk};
-ghost use Rattle.asc.specs.Asc.{IsWellFormed};
-ghost use Rattle.tool_text.specs.Lines.{lines_of};
+mod element_lines;
+mod lines;
+mod parts;
+mod setting_lines;
+#[cfg(test)]
+mod tests;
 
-use asc::Asc;
-use bit_core::{Items, Octets};
-use std::alloc::{AllocError, Global};
-
-pub fn configuration_lines(alloc: Global, asc: &Asc) -> Result<Items<Octets>, AllocError>
-    requires { IsWellFormed asc.now }
-    ensures { IfOk result (λ lines. lines ≡ lines_of asc.now) }
-{
-    let _ = asc;
-    Ok(Items::new(alloc))
-}
+pub use lines::configuration_lines;
