@@ -43,7 +43,7 @@ wrote_all : (j : Job) (gives : GivesOutput j) (ready : Option Running) (text : L
 wrote_all j gives ready text fs rest t c p = record { written = p.written ∙ ap (λ (x : List ℕ). append_known t.written_before x) (gives ready text fs rest c); fed = p.fed }
 
 -- a front of a front
-front_of_front : (k : ℕ) (xs ys : List ℕ) → (j : ℕ) × (take k xs ≡ take j (xs ++ ys))
+pub front_of_front : (k : ℕ) (xs ys : List ℕ) → (j : ℕ) × (take k xs ≡ take j (xs ++ ys))
 front_of_front k xs ys =
     elim (cases_lt k (length xs)) [
       | inl lt ↦ (k, sym (take-append-le k xs ys (omega arith)))

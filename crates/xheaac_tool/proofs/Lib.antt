@@ -7,5 +7,6 @@ pub mod Handing
 pub mod FrameSteps
 pub mod Going
 pub mod Endings
+pub mod Lines
 pub mod WordLemmas
 pub mod Rans

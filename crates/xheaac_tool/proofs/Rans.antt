@@ -11,9 +11,14 @@ use Rattle.xheaac_tool.specs.Jobs.{Job, GivesOutput, bytes_through}
 use Rattle.xheaac_tool.specs.Causes.{Counts, Caused}
 use Rattle.xheaac_tool.specs.Handing.{WrotePart}
 use Rattle.xheaac_tool.specs.Ending.{Traces, DoesFile, Ends, WroteAll, WroteFront}
-use Rattle.xheaac_tool.specs.Ran.{Notes, Noted, Reports, NotedFront, NotesOf, CausesOf, RunsFile, status_of, text_of}
+use Rattle.xheaac_tool.specs.Ran.{Notes, Noted, Reports, NotedFront, NotesOf, CausesOf, RunsFile, command_of, status_of, text_of}
 use Rattle.xheaac_tool.specs.Reading.{most_bytes}
 use Rattle.xheaac_tool.specs.Texts.{read_text, write_text, core_text, memory_text}
+use Rattle.xheaac_tool.specs.Showing.{show_job}
+use Rattle.xheaac_tool.specs.Stepping.{play_job}
+use Rattle.xheaac_tool.specs.Outputs.{show_gives, play_gives}
+use Rattle.xheaac_tool.specs.declared.words.Asked.{Asked}
+use Rattle.xheaac_tool.specs.Asked.{asked}
 use Rattle.xheaac_tool.specs.Words.{Case, case_of, file_in, file_of, Show, Play}
 use Rattle.xheaac_tool.specs.declared.frame.Frame.{Frame}
 use Rattle.xheaac_tool.specs.declared.outcome.Outcome.{Outcome}
@@ -148,6 +153,15 @@ runs_file j gives text remains t n o s p r = record {
   memory = λ e. let f = front_of j gives text remains t o p in (f.0, f.1, f.2, noted_front j gives text remains t n o p (part_noted n o (status_of o) s r), f.3);
 }
 
+-- the same of the command of a case
+runs_case : (d : Definitions) (case : Case) (text : List ℕ) (remains : Option (List ℕ)) (t : Traces) (n : Notes) (o : Outcome) (s : ℕ) → DoesFile (command_of d case) text remains t o → Reports n (text_of o) (status_of o) s → RunsFile (command_of d case) text remains t n s
+runs_case d (Show file) text remains t n o s p r = runs_file (show_job d) (show_gives d) text remains t n o s p r
+runs_case d (Play file) text remains t n o s p r = runs_file (play_job d) (play_gives d) text remains t n o s p r
+
+pub runs_known : (d : Definitions) (known case : Case) (text : List ℕ) (remains : Option (List ℕ)) (t : Traces) (n : Notes) (o : Outcome) (s : ℕ) → known ≡ case → DoesFile (command_of d known) text remains t o → Reports n (text_of o) (status_of o) s
+    → RunsFile (command_of d case) text remains t n s
+runs_known d known case text remains t n o s e p r = runs_case d case text remains t n o s (subst (λ (k : Case). DoesFile (command_of d k) text remains t o) e p) r
+
 pub notes_of : (n : Notes) (o : Outcome) (s : ℕ) → (o ≡ is.Done → (n.after ≡ n.before) × (n.faults_after ≡ n.faults_before)) → Reports n (text_of o) (status_of o) s → NotesOf n s
 notes_of n o s quiet r = record {
   done = λ e. quiet (done_outcome n o s r e);
@@ -190,6 +204,10 @@ some_case c = Some c
 
 same_case : (c d : Case) → some_case c ≡ some_case d → c ≡ d
 same_case c d e = cc
+
+-- the case that was read of the words
+pub known_case : (read is : Asked) (case : Case) (found : Option Case) → read ≡ is → some_case (asked read) ≡ found → found ≡ some_case case → asked is ≡ case
+known_case read is case found e of_words named = same_case (asked is) case (ap (λ (x : Asked). some_case (asked x)) (sym e) ∙ of_words ∙ named)
 
 pub file_named : (words : List (List ℕ)) (case : Case) → case_of words ≡ Some case → file_of words ≡ file_in case
 file_named [] case e = absurd cc
