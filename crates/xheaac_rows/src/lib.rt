@@ -7,4 +7,8 @@ mod failing_core;
 pub use failing_core::FailingCore;
 
 #[cfg(test)]
+mod cases;
+#[cfg(test)]
 mod rows;
+#[cfg(test)]
+mod shown;

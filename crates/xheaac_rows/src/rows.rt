@@ -1,87 +1,15 @@
-// Worked cases of the commands over devices in memory.
-ghost use Rattle.std.specs.Prelude.{◌≤◌, ◌^◌};
+// Worked rows of `play`, and of the faults of each object.
+ghost use Rattle.std.specs.Prelude.{◌≤◌};
 
 use crate::FailingCore;
+use crate::cases::{
+    Case, DECLARED, DEPENDENT, EMPTIED, PLAIN, REOPENED, USAGE, WHOLE, check, ended, samples,
+};
 use core_iface::{Core, FoldCore};
 use outside::{MemShelf, MemSink};
-use std::alloc::{AllocError, Global};
 use std::process::Abort;
 use std::test::Fail;
-use xheaac_tool::{Outcome, do_play, run};
-
-// Two frames: the samples of the first are 2, 3, .. 1025, and those of the second 13, 14, .. 1036.
-const PLAIN: &[u8] =
-    b"\x56\xE0\x0B\x20\x00\xF9\x46\x23\x21\x01\x0F\xF0\x06\x80\x56\xE0\x03\x80\x88\x00";
-
-const USAGE: &str =
-    "usage: xheaac show|check|play FILE | start FILE FRAME | plan|splice|switch FILE POS [FILE POS]... | insert FILE K FADE TARGETS | strip FILE TAIL TARGETS | make START FRAMES\n";
-
-// What the shelf holds as `in`, how the devices fail, and what comes of it.
-#[derive(Clone, Copy)]
-struct Case<'a> {
-    words: &'a [&'a str],
-    bytes: &'a [u8],
-    failing_reads: &'a [u64],
-    failing_writes: &'a [u64],
-    failing_notes: &'a [u64],
-    status: u8,
-    /// How many bytes of the samples of the two frames are written.
-    written: usize,
-    note: &'a str,
-    fed: u64,
-}
-
-const WHOLE: Case<'static> = Case {
-    words: &["play", "in"],
-    bytes: PLAIN,
-    failing_reads: &[],
-    failing_writes: &[],
-    failing_notes: &[],
-    status: 0,
-    written: 4096,
-    note: "",
-    fed: 2,
-};
-
-// The bytes of the samples of both frames.
-fn samples(alloc: Global) -> Result<Vec<u8>, AllocError> {
-    let mut bytes = Vec::new(alloc);
-    for first in [2u16, 13] {
-        for time in 0..1024u16 {
-            bytes.extend_from_slice(&first.wrapping_add(time).to_le_bytes())?;
-        }
-    }
-    Ok(bytes)
-}
-
-// Runs a case where the devices take and give pieces of a size.
-fn check<C: Core>(
-    rt: &(impl Abort + AllocGlobal),
-    piece: usize,
-    case: Case<'_>,
-    core: &mut C,
-) -> Result<(), Fail>
-    requires piece { 1 ≤ piece }
-    requires fed { (C.meaning core.old).fed ≤ 2 ^ 63 }
-{
-    let alloc = rt.alloc();
-    let mut shelf = MemShelf::new(alloc, piece, case.failing_reads)?;
-    shelf.add("in", case.bytes)?;
-    let mut out = MemSink::new(alloc, piece, case.failing_writes)?;
-    let mut note = MemSink::new(alloc, piece, case.failing_notes)?;
-    let mut words = Vec::new(alloc);
-    for word in case.words {
-        words.push(String::from_str(alloc, word)?)?;
-    }
-    let before = core.fed();
-    let status = run(alloc, &words, &mut shelf, &mut out, &mut note, core);
-    let all = samples(alloc)?;
-    assert_eq!(rt; status, case.status);
-    assert_eq!(rt; out.bytes(), all.get(..case.written).unwrap_or(&[]));
-    assert_eq!(rt; note.bytes(), case.note.as_bytes());
-    assert_eq!(rt; core.fed().wrapping_sub(before), case.fed);
-    Ok(())
-}
+use xheaac_tool::{Outcome, do_play};
 
 #[test]
 fn plays_streams(rt: HostRuntime) -> Result<(), Fail> {
@@ -109,6 +37,36 @@ fn plays_streams(rt: HostRuntime) -> Result<(), Fail> {
             fed: 0,
             ..WHOLE
         },
+        Case {
+            bytes: REOPENED,
+            status: 1,
+            note: "refused: frame 2: form not built\n",
+            ..WHOLE
+        },
+        Case {
+            bytes: EMPTIED,
+            status: 1,
+            written: 2048,
+            note: "refused: frame 1: form not built\n",
+            fed: 1,
+            ..WHOLE
+        },
+        Case {
+            bytes: DECLARED,
+            status: 1,
+            written: 0,
+            note: "refused: frame 0: form not built\n",
+            fed: 0,
+            ..WHOLE
+        },
+        Case {
+            bytes: DEPENDENT,
+            status: 1,
+            written: 0,
+            note: "refused: frame 0: form not built\n",
+            fed: 0,
+            ..WHOLE
+        },
     ];
     for case in cases {
         for piece in [5000, 1] {
@@ -116,23 +74,6 @@ fn plays_streams(rt: HostRuntime) -> Result<(), Fail> {
         }
     }
     Ok(())
-}
-
-// A case in which one call of a device or of the core fails.
-fn ended<'a>(status: u8, written: usize, fed: u64) -> Case<'a> {
-    let note = match status {
-        3 => "read fault\n",
-        4 => "write fault\n",
-        5 => "core fault\n",
-        _ => "",
-    };
-    Case {
-        status,
-        written,
-        note,
-        fed,
-        ..WHOLE
-    }
 }
 
 #[test]

@@ -51,7 +51,7 @@ twice_not false c e = rw e refl
 
 pub element-exact : (in_force : Bool) → IsExact (element in_force)
 element-exact in_force = shaped-exact _ _ _ (
-      both-exact _ _ (checked-exact (same_refused in_force) _ (wrapped-exact from_short _ bit-exact)) (λ same. both-exact _ _ (where_set-exact (not same) stream_mux stream_mux-exact) (λ _. slot_of_bytes-exact)))
+    both-exact _ _ (checked-exact (same_refused in_force) _ (wrapped-exact from_short _ bit-exact)) (λ same. both-exact _ _ (where_set-exact (not same) stream_mux stream_mux-exact) (λ _. slot_of_bytes-exact)))
     (λ a h. ap (λ (b : Bool). triple b a.1) (twice_not a.0 (is_some a.1.0) h.1.0.0)) (λ b h. refl)
 
 -- ---- fewer than 8 zeros to the end

@@ -40,7 +40,7 @@ pub part_of_line : (before mid after : Option (List ℕ)) (lines : List (List �
 part_of_line before mid after lines i line bytes lt e is_line so_far part =
     let rest = joined (drop (suc i) lines) in
     subst (λ (x : List ℕ). WrotePart before after x) (sym (joined_split lines i line lt e))
-      (part_behind before mid after (joined (take i lines)) (line ++ rest) so_far (part_in_front mid after line rest (subst (λ (x : List ℕ). WrotePart mid after x) is_line part)))
+    (part_behind before mid after (joined (take i lines)) (line ++ rest) so_far (part_in_front mid after line rest (subst (λ (x : List ℕ). WrotePart mid after x) is_line part)))
 
 -- ---- what a frame puts in force
 

@@ -81,5 +81,5 @@ play_gives d ready text (frame ∷ frames) rest c =
     let r = running config (d.init config) in
     let u = unit_of frame.au in
     rw o.1 (
-      ap (λ (xs : List ℕ). sample_bytes (emitted d r u) ++ xs) (emitted_on d (stepped d r u) c.1 frames rest c.5) ∙ sym (sample_bytes-append (emitted d r u) (emitted_over d (stepped d r u) (units_of frames)))
-      ∙ ap sample_bytes (emitted_over-running d config (d.init config) (u ∷ units_of frames)))
+    ap (λ (xs : List ℕ). sample_bytes (emitted d r u) ++ xs) (emitted_on d (stepped d r u) c.1 frames rest c.5) ∙ sym (sample_bytes-append (emitted d r u) (emitted_over d (stepped d r u) (units_of frames)))
+    ∙ ap sample_bytes (emitted_over-running d config (d.init config) (u ∷ units_of frames)))

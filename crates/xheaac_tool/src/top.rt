@@ -137,7 +137,7 @@ pub fn run<H: Shelf, K: Sink, N: Sink, C: Core>(
     ensures tells { H.tells shelf.new ≡ H.tells shelf.old }
     ensures others { (id : ℕ) → id < H.begun shelf.old → H.left shelf.new id ≡ H.left shelf.old id }
 
-    // Calm objects stay calm, and answer no fault where the file is held and its configuration served.
+    // Calm objects stay calm, and answer no fault where the file is held and its configurations are served.
     ensures calm_shelf { H.calm shelf.old → H.calm shelf.new }
     ensures calm_out { K.calm out.old → K.calm out.new }
     ensures calm_core { C.IsCalm core.old → C.IsCalm core.new }
@@ -146,13 +146,7 @@ pub fn run<H: Shelf, K: Sink, N: Sink, C: Core>(
 {
     match read_words(words) {
         None => report(note, USAGE, 2),
-        Some(Asked::Show { .. }) => {
-            let outcome = do_show(alloc, words, shelf, out, core);
-            finish(note, &outcome)
-        }
-        Some(Asked::Play { .. }) => {
-            let outcome = do_play(alloc, words, shelf, out, core);
-            finish(note, &outcome)
-        }
+        Some(Asked::Show { .. }) => finish(note, &do_show(alloc, words, shelf, out, core)),
+        Some(Asked::Play { .. }) => finish(note, &do_play(alloc, words, shelf, out, core)),
     }
 }

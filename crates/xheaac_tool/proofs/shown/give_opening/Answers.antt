@@ -11,11 +11,11 @@ returns-in_err-give_all-clause-err g c =
 pub returns-clause-ok : goal.returns-clause-ok
 returns-clause-ok g c =
     on_ok_weaker c.give_lines.result
-      (shown_all c.args.asc.now (g.K.Sink.written c.args.out.now) (g.K.Sink.written c.give_all.new.out) (g.K.Sink.written c.give_lines.new.out) c.as_bytes.result.now c.as_slice.result.now c.as_bytes.ensures.value (c.as_slice.ensures ∙ c.in-Ok.ensures) c.in_ok-give_all.ensures.ok)
-      c.give_lines.ensures.ok
+    (shown_all c.args.asc.now (g.K.Sink.written c.args.out.now) (g.K.Sink.written c.give_all.new.out) (g.K.Sink.written c.give_lines.new.out) c.as_bytes.result.now c.as_slice.result.now c.as_bytes.ensures.value (c.as_slice.ensures ∙ c.in-Ok.ensures) c.in_ok-give_all.ensures.ok)
+    c.give_lines.ensures.ok
 
 pub returns-clause-err : goal.returns-clause-err
 returns-clause-err g c =
     on_err_weaker c.give_lines.result
-      (shown_part c.args.asc.now (g.K.Sink.written c.args.out.now) (g.K.Sink.written c.give_all.new.out) (g.K.Sink.written c.give_lines.new.out) c.as_bytes.result.now c.as_slice.result.now c.as_bytes.ensures.value (c.as_slice.ensures ∙ c.in-Ok.ensures) c.in_ok-give_all.ensures.ok)
-      c.give_lines.ensures.err
+    (shown_part c.args.asc.now (g.K.Sink.written c.args.out.now) (g.K.Sink.written c.give_all.new.out) (g.K.Sink.written c.give_lines.new.out) c.as_bytes.result.now c.as_slice.result.now c.as_bytes.ensures.value (c.as_slice.ensures ∙ c.in-Ok.ensures) c.in_ok-give_all.ensures.ok)
+    c.give_lines.ensures.err

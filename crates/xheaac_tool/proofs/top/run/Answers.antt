@@ -9,28 +9,28 @@ pub returns-in-Some-Show-clause-file : goal.returns-in-Some-Show-clause-file
 returns-in-Some-Show-clause-file g c = λ case text asked here.
     let named = file_named (texts c.args.words.now) case asked in
     let known : Show c.in-Some-Show.field-0-0.now ≡ case = known_case c.in-Some-Show.field-0 _ case (case_of (texts c.args.words.now)) c.in-Some-Show.field-0-is c.in-Some-Show.ensures asked in
-    let does = c.do_show-outcome.ensures.does text (ap (g.H.Shelf.bytes c.args.shelf.now) named ∙ here) in
-    runs_known g.C.Core.does (Show c.in-Some-Show.field-0-0.now) case text _ _ _ c.do_show-outcome.result c.finish.result known does c.finish.ensures.reports
+    let does = c.do_show.ensures.does text (ap (g.H.Shelf.bytes c.args.shelf.now) named ∙ here) in
+    runs_known g.C.Core.does (Show c.in-Some-Show.field-0-0.now) case text _ _ _ c.do_show.result c.finish.result known does c.finish.ensures.reports
 
 pub returns-in-Some-Show-clause-taken : goal.returns-in-Some-Show-clause-taken
 returns-in-Some-Show-clause-taken g c = λ case asked.
     let named = file_named (texts c.args.words.now) case asked in
     let known : Show c.in-Some-Show.field-0-0.now ≡ case = known_case c.in-Some-Show.field-0 _ case (case_of (texts c.args.words.now)) c.in-Some-Show.field-0-is c.in-Some-Show.ensures asked in
-    let k = c.do_show-outcome.ensures.taken in
-    let from = subst (λ (x : List ℕ). g.H.Shelf.bytes c.args.shelf.now x ≡ prepend_known k.0 (remains_of (g.H.Shelf.begun c.args.shelf.now) (g.H.Shelf.begun c.do_show-outcome.new.shelf) (g.H.Shelf.left c.do_show-outcome.new.shelf (g.H.Shelf.begun c.args.shelf.now)) (g.H.Shelf.bytes c.args.shelf.now x))) named k.1 in
-    (k.0, from, runs_known g.C.Core.does (Show c.in-Some-Show.field-0-0.now) case k.0 _ _ _ c.do_show-outcome.result c.finish.result known k.2 c.finish.ensures.reports)
+    let k = c.do_show.ensures.taken in
+    let from = subst (λ (x : List ℕ). g.H.Shelf.bytes c.args.shelf.now x ≡ prepend_known k.0 (remains_of (g.H.Shelf.begun c.args.shelf.now) (g.H.Shelf.begun c.do_show.new.shelf) (g.H.Shelf.left c.do_show.new.shelf (g.H.Shelf.begun c.args.shelf.now)) (g.H.Shelf.bytes c.args.shelf.now x))) named k.1 in
+    (k.0, from, runs_known g.C.Core.does (Show c.in-Some-Show.field-0-0.now) case k.0 _ _ _ c.do_show.result c.finish.result known k.2 c.finish.ensures.reports)
 
 pub returns-in-Some-Play-clause-file : goal.returns-in-Some-Play-clause-file
 returns-in-Some-Play-clause-file g c = λ case text asked here.
     let named = file_named (texts c.args.words.now) case asked in
     let known : Play c.in-Some-Play.field-0-0.now ≡ case = known_case c.in-Some-Play.field-0 _ case (case_of (texts c.args.words.now)) c.in-Some-Play.field-0-is c.in-Some-Play.ensures asked in
-    let does = c.do_play-outcome.ensures.does text (ap (g.H.Shelf.bytes c.args.shelf.now) named ∙ here) in
-    runs_known g.C.Core.does (Play c.in-Some-Play.field-0-0.now) case text _ _ _ c.do_play-outcome.result c.finish-in-Some-Play.result known does c.finish-in-Some-Play.ensures.reports
+    let does = c.do_play.ensures.does text (ap (g.H.Shelf.bytes c.args.shelf.now) named ∙ here) in
+    runs_known g.C.Core.does (Play c.in-Some-Play.field-0-0.now) case text _ _ _ c.do_play.result c.finish-in-Some-Play.result known does c.finish-in-Some-Play.ensures.reports
 
 pub returns-in-Some-Play-clause-taken : goal.returns-in-Some-Play-clause-taken
 returns-in-Some-Play-clause-taken g c = λ case asked.
     let named = file_named (texts c.args.words.now) case asked in
     let known : Play c.in-Some-Play.field-0-0.now ≡ case = known_case c.in-Some-Play.field-0 _ case (case_of (texts c.args.words.now)) c.in-Some-Play.field-0-is c.in-Some-Play.ensures asked in
-    let k = c.do_play-outcome.ensures.taken in
-    let from = subst (λ (x : List ℕ). g.H.Shelf.bytes c.args.shelf.now x ≡ prepend_known k.0 (remains_of (g.H.Shelf.begun c.args.shelf.now) (g.H.Shelf.begun c.do_play-outcome.new.shelf) (g.H.Shelf.left c.do_play-outcome.new.shelf (g.H.Shelf.begun c.args.shelf.now)) (g.H.Shelf.bytes c.args.shelf.now x))) named k.1 in
-    (k.0, from, runs_known g.C.Core.does (Play c.in-Some-Play.field-0-0.now) case k.0 _ _ _ c.do_play-outcome.result c.finish-in-Some-Play.result known k.2 c.finish-in-Some-Play.ensures.reports)
+    let k = c.do_play.ensures.taken in
+    let from = subst (λ (x : List ℕ). g.H.Shelf.bytes c.args.shelf.now x ≡ prepend_known k.0 (remains_of (g.H.Shelf.begun c.args.shelf.now) (g.H.Shelf.begun c.do_play.new.shelf) (g.H.Shelf.left c.do_play.new.shelf (g.H.Shelf.begun c.args.shelf.now)) (g.H.Shelf.bytes c.args.shelf.now x))) named k.1 in
+    (k.0, from, runs_known g.C.Core.does (Play c.in-Some-Play.field-0-0.now) case k.0 _ _ _ c.do_play.result c.finish-in-Some-Play.result known k.2 c.finish-in-Some-Play.ensures.reports)

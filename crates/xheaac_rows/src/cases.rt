@@ -1,0 +1,130 @@
+// Cases of the commands over devices in memory, and the streams that they read.
+ghost use Rattle.std.specs.Prelude.{◌≤◌, ◌^◌};
+
+use core_iface::Core;
+use outside::{MemShelf, MemSink};
+use std::alloc::{AllocError, Global};
+use std::process::Abort;
+use std::test::Fail;
+use xheaac_tool::run;
+
+// Two frames: the samples of the first are 2, 3, .. 1025, and those of the second 13, 14, .. 1036.
+pub const PLAIN: &[u8] =
+    b"\x56\xE0\x0B\x20\x00\xF9\x46\x23\x21\x01\x0F\xF0\x06\x80\x56\xE0\x03\x80\x88\x00";
+
+// One frame, whose configuration has an extension element before the other one, and an identifier of the stream.
+pub const DECLARED: &[u8] =
+    b"\x56\xE0\x10\x20\x00\xF9\x46\x23\x21\x1C\xC0\x18\xE4\x00\x02\x3F\xC0\x1A\x00";
+
+// The two frames, and the first of them again.
+pub const REOPENED: &[u8] =
+    b"\x56\xE0\x0B\x20\x00\xF9\x46\x23\x21\x01\x0F\xF0\x06\x80\x56\xE0\x03\x80\x88\x00\x56\xE0\x0B\x20\x00\xF9\x46\x23\x21\x01\x0F\xF0\x06\x80";
+
+// The first frame, and one whose access unit is empty.
+pub const EMPTIED: &[u8] =
+    b"\x56\xE0\x0B\x20\x00\xF9\x46\x23\x21\x01\x0F\xF0\x06\x80\x56\xE0\x02\x80\x00";
+
+// The first frame with an access unit that is not independent.
+pub const DEPENDENT: &[u8] = b"\x56\xE0\x0B\x20\x00\xF9\x46\x23\x21\x01\x0F\xF0\x04\x80";
+
+pub const USAGE: &str =
+    "usage: xheaac show|check|play FILE | start FILE FRAME | plan|splice|switch FILE POS [FILE POS]... | insert FILE K FADE TARGETS | strip FILE TAIL TARGETS | make START FRAMES\n";
+
+// What the shelf holds as `in`, how the devices fail, and what comes of it.
+#[derive(Clone, Copy)]
+pub struct Case<'a> {
+    pub words: &'a [&'a str],
+    pub bytes: &'a [u8],
+    pub failing_reads: &'a [u64],
+    pub failing_writes: &'a [u64],
+    pub failing_notes: &'a [u64],
+    pub status: u8,
+    /// How many bytes of the samples of the two frames are written.
+    pub written: usize,
+    pub note: &'a str,
+    pub fed: u64,
+}
+
+pub const WHOLE: Case<'static> = Case {
+    words: &["play", "in"],
+    bytes: PLAIN,
+    failing_reads: &[],
+    failing_writes: &[],
+    failing_notes: &[],
+    status: 0,
+    written: 4096,
+    note: "",
+    fed: 2,
+};
+
+// The bytes of the samples of both frames.
+pub fn samples(alloc: Global) -> Result<Vec<u8>, AllocError> {
+    let mut bytes = Vec::new(alloc);
+    for first in [2u16, 13] {
+        for time in 0..1024u16 {
+            bytes.extend_from_slice(&first.wrapping_add(time).to_le_bytes())?;
+        }
+    }
+    Ok(bytes)
+}
+
+// Runs a case where the devices take and give pieces of a size, and that output is wanted.
+pub fn check_output<C: Core>(
+    rt: &(impl Abort + AllocGlobal),
+    piece: usize,
+    case: Case<'_>,
+    wanted: &[u8],
+    core: &mut C,
+) -> Result<(), Fail>
+    requires piece { 1 ≤ piece }
+    requires fed { (C.meaning core.old).fed ≤ 2 ^ 63 }
+{
+    let alloc = rt.alloc();
+    let mut shelf = MemShelf::new(alloc, piece, case.failing_reads)?;
+    shelf.add("in", case.bytes)?;
+    let mut out = MemSink::new(alloc, piece, case.failing_writes)?;
+    let mut note = MemSink::new(alloc, piece, case.failing_notes)?;
+    let mut words = Vec::new(alloc);
+    for word in case.words {
+        words.push(String::from_str(alloc, word)?)?;
+    }
+    let before = core.fed();
+    let status = run(alloc, &words, &mut shelf, &mut out, &mut note, core);
+    assert_eq!(rt; status, case.status);
+    assert_eq!(rt; out.bytes(), wanted);
+    assert_eq!(rt; note.bytes(), case.note.as_bytes());
+    assert_eq!(rt; core.fed().wrapping_sub(before), case.fed);
+    Ok(())
+}
+
+// The same, where the output is so many bytes of the samples of the two frames.
+pub fn check<C: Core>(
+    rt: &(impl Abort + AllocGlobal),
+    piece: usize,
+    case: Case<'_>,
+    core: &mut C,
+) -> Result<(), Fail>
+    requires piece { 1 ≤ piece }
+    requires fed { (C.meaning core.old).fed ≤ 2 ^ 63 }
+{
+    let all = samples(rt.alloc())?;
+    let wanted = all.get(..case.written).unwrap_or(&[]);
+    check_output(rt, piece, case, wanted, core)
+}
+
+// A case in which one call of a device or of the core fails.
+pub fn ended<'a>(status: u8, written: usize, fed: u64) -> Case<'a> {
+    let note = match status {
+        3 => "read fault\n",
+        4 => "write fault\n",
+        5 => "core fault\n",
+        _ => "",
+    };
+    Case {
+        status,
+        written,
+        note,
+        fed,
+        ..WHOLE
+    }
+}

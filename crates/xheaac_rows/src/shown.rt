@@ -1,0 +1,87 @@
+// Worked rows of `show`.
+use crate::cases::{Case, DECLARED, EMPTIED, PLAIN, REOPENED, check_output, ended};
+use core_iface::{Core, FoldCore};
+use outside::{MemShelf, MemSink};
+use std::test::Fail;
+use xheaac_tool::{Outcome, do_show};
+
+const MUX_LINE: &str = "mux version=0 subframes=1 fullness=255 other=- crc=-\n";
+
+const DECLARED_LINES: &str =
+    "asc index=3 rate=- channels=1 tail=0\nusac rate=48000 frame=1024 channels=1 elements=2 extensions=1 id=1\nelement 0 ext type=3 default=- frag=0 config=-\nelement 1 single tw=0 nf=1\nextension 0 type=7 bytes=0001\n";
+
+const PLAIN_LINES: &str =
+    "asc index=3 rate=- channels=1 tail=0\nusac rate=48000 frame=1024 channels=1 elements=1 extensions=0 id=-\nelement 0 single tw=0 nf=1\n";
+
+#[test]
+fn shows_streams(rt: HostRuntime) -> Result<(), Fail> {
+    let shown = Case {
+        words: &["show", "in"],
+        ..ended(0, 0, 0)
+    };
+    let rows: [(&[u8], u8, &str, &[&str]); 5] = [
+        (DECLARED, 0, "", &[MUX_LINE, DECLARED_LINES]),
+        (
+            REOPENED,
+            0,
+            "",
+            &[MUX_LINE, PLAIN_LINES, MUX_LINE, PLAIN_LINES],
+        ),
+        (
+            &REOPENED[..33],
+            1,
+            "refused: frame 2: form not built\n",
+            &[MUX_LINE, PLAIN_LINES],
+        ),
+        (EMPTIED, 0, "", &[MUX_LINE, PLAIN_LINES]),
+        (b"\x00", 1, "refused: frame 0: form not built\n", &[]),
+    ];
+    for (bytes, status, note, texts) in rows {
+        let mut wanted = Vec::new(rt.alloc());
+        for text in texts {
+            wanted.extend_from_slice(text.as_bytes())?;
+        }
+        let case = Case {
+            bytes,
+            status,
+            note,
+            ..shown
+        };
+        check_output(&rt, 5000, case, &wanted, &mut FoldCore::new())?;
+        check_output(&rt, 1, case, &wanted, &mut FoldCore::new())?;
+    }
+    // one write a line
+    let stopped = Case {
+        words: &["show", "in"],
+        failing_writes: &[2],
+        ..ended(4, 0, 0)
+    };
+    check_output(
+        &rt,
+        5000,
+        stopped,
+        MUX_LINE.as_bytes(),
+        &mut FoldCore::new(),
+    )
+}
+
+// `show` without its note.
+#[test]
+fn shows_without_note(rt: HostRuntime) -> Result<(), Fail> {
+    let alloc = rt.alloc();
+    let mut shelf = MemShelf::new(alloc, 5000, &[])?;
+    shelf.add("in", PLAIN)?;
+    let mut out = MemSink::new(alloc, 5000, &[])?;
+    let mut words = Vec::new(alloc);
+    words.push(String::from_str(alloc, "show")?)?;
+    words.push(String::from_str(alloc, "in")?)?;
+    let mut core = FoldCore::new();
+    let outcome = do_show(alloc, &words, &mut shelf, &mut out, &mut core);
+    assert!(rt; matches!(outcome, Outcome::Done));
+    let mut wanted = Vec::new(alloc);
+    wanted.extend_from_slice(MUX_LINE.as_bytes())?;
+    wanted.extend_from_slice(PLAIN_LINES.as_bytes())?;
+    assert_eq!(rt; out.bytes(), wanted.as_slice());
+    assert_eq!(rt; core.fed(), 0);
+    Ok(())
+}
