@@ -1,4 +1,4 @@
-ghost use Rattle.std.specs.Prelude.{◌≡◌, [], IfOk};
+ghost use Rattle.std.specs.Prelude.{IfOk};
 ghost use Rattle.asc.specs.Asc.{IsWellFormed};
 
 use crate::{Asc, AscFault};
@@ -34,11 +34,7 @@ fn read_counted_row(rt: &(impl Abort + AllocGlobal), row: ConfigRow) -> Result<A
     Ok(asc)
 }
 
-fn check_written(
-    rt: &(impl Abort + AllocGlobal),
-    asc: &Asc,
-    row: ConfigRow,
-) -> Result<(), Fail>
+fn check_written(rt: &(impl Abort + AllocGlobal), asc: &Asc, row: ConfigRow) -> Result<(), Fail>
     requires { IsWellFormed asc.now }
 {
     let (bits, text) = row;
@@ -100,8 +96,8 @@ fn other_texts_are_refused(rt: HostRuntime) -> Result<(), Fail> {
     let rows = [
         // 00010: object type 2
         (b"\x10".as_slice(), 5, ("NotUsac", 0, 2)),
-        // 11111 111111: object type 63
-        (b"\xFF\xE0", 11, ("NotUsac", 0, 63)),
+        // 11111 011111: object type 32 + 31
+        (b"\xFB\xE0", 11, ("NotUsac", 0, 63)),
         // 1111, and 11111 00101: an object type without its last bit
         (b"\xF0", 4, ("Short", 0, 0)),
         (b"\xF9\x40", 10, ("Short", 0, 0)),

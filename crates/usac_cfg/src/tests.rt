@@ -125,14 +125,12 @@ fn streams_with_other_identifiers_are_not_the_same(rt: HostRuntime) -> Result<()
 fn a_stereo_index_needs_sbr(rt: HostRuntime) -> Result<(), Fail> {
     let mut config = read_row(&rt, TWO_POSITIONS)?;
     let mut elements = Elements::new(rt.alloc());
-    elements.push(
-        ElementConfig::Pair {
-            core: CORE,
-            sbr: None,
-            stereo: 3,
-            mps: Some(FULL_MPS),
-        },
-    )?;
+    elements.push(ElementConfig::Pair {
+        core: CORE,
+        sbr: None,
+        stereo: 3,
+        mps: Some(FULL_MPS),
+    })?;
     config.elements = elements;
     assert!(rt; !config.is_well_formed());
     Ok(())
