@@ -9,6 +9,8 @@ mod asc_config;
 mod fault;
 mod format;
 mod reading;
+#[cfg(test)]
+mod tests;
 mod writing;
 
 pub use asc_config::Asc;

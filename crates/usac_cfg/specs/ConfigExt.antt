@@ -1,5 +1,5 @@
 -- The extensions of a configuration (ISO/IEC 23003-3, UsacConfigExtension).
-use Rattle.std.specs.Prelude.{ℕ, ◌+◌, ◌-◌, ◌<◌, ◌≤◌, Bool, true, false, List, [], ◌∷◌, Option, Some, None, length, unwrap_or}
+use Rattle.std.specs.Prelude.{◌+◌, ◌-◌, ◌<◌, ◌≤◌, Bool, true, false, List, [], ◌∷◌, Option, Some, None, length, unwrap_or}
 use Rattle.std.specs.List.{AllByRecursion}
 use Rattle.layout.specs.Layout.{Layout, both, shaped, wrapped, where_set}
 use Rattle.layout.specs.Times.{times}

@@ -1,5 +1,5 @@
 -- How a configuration is spelled, field by field (ISO/IEC 23003-3, UsacConfig).
-use Rattle.std.specs.Prelude.{◌≡◌, ℕ, ◌+◌, ◌-◌, Bool, true, false, List, [], length, Option, Some, None, nat_lt, ◌==◌, if◌then◌else◌}
+use Rattle.std.specs.Prelude.{ℕ, ◌+◌, ◌-◌, Bool, true, false, List, [], length, Option, Some, None, nat_lt, ◌==◌, if◌then◌else◌}
 use Rattle.layout.specs.Layout.{Layout, both, shaped, wrapped, checked, known}
 use Rattle.layout.specs.Times.{times}
 use Rattle.bit_core.specs.Plain.{bits}

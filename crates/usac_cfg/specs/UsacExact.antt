@@ -1,16 +1,14 @@
 -- A configuration is read exactly.
-use Rattle.std.proofs.Common.{◌≡◌, ℕ, zero, suc, ◌+◌, ◌-◌, ◌^◌, ◌<◌, ◌≤◌, Bool, true, false, List, [], ◌∷◌, length, get_or, Option, Some, None, refl, sym, ap, subst, ◌∙◌, arith, inl, inr, add-one}
+use Rattle.std.proofs.Common.{◌≡◌, ℕ, zero, suc, ◌+◌, ◌-◌, ◌<◌, ◌≤◌, Bool, true, false, List, [], ◌∷◌, length, Option, Some, None, refl, sym, ap, ◌∙◌, arith, inl, inr, add-one}
 use Rattle.std.specs.Prelude.{◌⊎◌, is_some, unwrap_or, nat_lt, ◌==◌, ◌||◌, if◌then◌else◌}
 use Rattle.std.specs.List.{AllByRecursion}
-use Rattle.std.proofs.lemmas.Bool.{cases_lt, cases_eq, eq-eqb, ne_eqb, le-ltb, lt-ltb, eqb-true}
+use Rattle.std.proofs.lemmas.Bool.{cases_lt, ne_eqb, le-ltb, lt-ltb, eqb-true}
 use Rattle.std.proofs.lemmas.List.{get_or_past}
-use Rattle.layout.specs.Layout.{FitsOption, known, wrapped, both, where_set}
-use Rattle.layout.specs.Tagged.{FitsIn}
+use Rattle.layout.specs.Layout.{FitsOption}
 use Rattle.layout.specs.Exact.{IsExact}
 use Rattle.layout.proofs.Layouts.{both-exact, shaped-exact, wrapped-exact, checked-exact, where_set-exact, known-exact, times-exact, same-exact, some_is}
 use Rattle.layout.proofs.TaggedExact.{tagged-exact, as_variant-exact}
 use Rattle.bit_core.specs.declared.faults.ReadFault.TheVariants as reads
-use Rattle.bit_core.specs.Plain.{bits}
 use Rattle.bit_core.proofs.PlainFacts.{bits-exact, bit-exact, octets-exact}
 use Rattle.esc_value.specs.EscapedExact.{escaped_exact}
 use Rattle.tables.specs.Tables.{rates, frames, channels as channel_table, at_index}
@@ -18,8 +16,6 @@ use Rattle.sbr_mps.specs.declared.core_config.CoreConfig.{CoreConfig}
 use Rattle.sbr_mps.specs.declared.sbr.SbrConfig.{SbrConfig}
 use Rattle.sbr_mps.specs.declared.mps.Mps212.{Mps212}
 use Rattle.sbr_mps.specs.Exact.{core_config_exact, sbr_config_exact, mps212_exact}
-use Rattle.sbr_mps.specs.Mps212 as mps
-use Rattle.sbr_mps.specs.SbrConfig as sbr
 use Rattle.usac_cfg.specs.declared.ext_config.ExtConfig.{ExtConfig}
 use Rattle.usac_cfg.specs.declared.config_ext.ConfigExt.{ConfigExt}
 use Rattle.usac_cfg.specs.declared.element_config.ElementConfig.{ElementConfig}

@@ -1,14 +1,17 @@
-ghost use Rattle.std.specs.Prelude.{◌≡◌, [], IfOk};
+ghost use Rattle.std.specs.Prelude.{IfOk};
 ghost use Rattle.usac_cfg.specs.UsacConfig.{IsWellFormed};
 
 use crate::{
-    CfgFault, ConfigExt, CoreConfig, ElementConfig, Mps212, Residual, SbrConfig, SbrFreq, SbrLimit,
+    CfgFault, CoreConfig, ElementConfig, Elements, Mps212, Residual, SbrConfig, SbrFreq, SbrLimit,
     UsacConfig,
 };
-use bit_core::{BitReader, BitWriter, Octets};
+use bit_core::{BitReader, BitWriter};
 use std::process::Abort;
 use std::test::Fail;
-use vectors::{ConfigRow, FULL_PAIR, MONO, PREROLL, REFUSED, TWO_POSITIONS, bytes_of};
+use vectors::{
+    ConfigRow, EXPLICIT_RATE, FULL_PAIR, MONO, PREROLL, REFUSED, SECOND_ID, STREAM_1, STREAM_2,
+    THREE_BYTES, TWO_POSITIONS, bytes_of,
+};
 
 const CORE: CoreConfig = CoreConfig {
     tw_mdct: false,
@@ -60,8 +63,7 @@ const PLAIN_SBR: SbrConfig = SbrConfig {
 };
 
 fn read_row(rt: &(impl Abort + AllocGlobal), row: ConfigRow) -> Result<UsacConfig, Fail>
-    ensures well_formed { IfOk result (λ config. IsWellFormed config) }
-    ensures no_extensions { IfOk result (λ config. config.extensions ≡ []) }
+    ensures { IfOk result (λ config. IsWellFormed config) }
 {
     let (bits, text) = row;
     let bytes = bytes_of(rt.alloc(), text)?;
@@ -77,8 +79,7 @@ fn check_written(
     config: &UsacConfig,
     row: ConfigRow,
 ) -> Result<(), Fail>
-    requires well_formed { IsWellFormed config.now }
-    requires no_extensions { config.now.extensions ≡ [] }
+    requires { IsWellFormed config.now }
 {
     let (bits, text) = row;
     let mut writer = BitWriter::new(rt.alloc());
@@ -91,11 +92,67 @@ fn check_written(
 
 #[test]
 fn configurations_are_read_copied_and_written(rt: HostRuntime) -> Result<(), Fail> {
-    for row in [MONO, TWO_POSITIONS, FULL_PAIR, PREROLL] {
+    let rows = [
+        MONO,
+        TWO_POSITIONS,
+        FULL_PAIR,
+        PREROLL,
+        STREAM_1,
+        STREAM_2,
+        EXPLICIT_RATE,
+        THREE_BYTES,
+        SECOND_ID,
+    ];
+    for row in rows {
         let config = read_row(&rt, row)?;
+        assert!(rt; config.is_well_formed(), "{}", row.1);
         check_written(&rt, &config, row)?;
         let copy = config.copy(rt.alloc())?;
-        check_written(&rt, &copy, row)?;
+        assert!(rt; copy.same(&config), "{}", row.1);
+    }
+    Ok(())
+}
+
+#[test]
+fn streams_with_other_identifiers_are_not_the_same(rt: HostRuntime) -> Result<(), Fail> {
+    let first = read_row(&rt, STREAM_1)?;
+    let second = read_row(&rt, STREAM_2)?;
+    assert!(rt; !first.same(&second));
+    Ok(())
+}
+
+#[test]
+fn a_stereo_index_needs_sbr(rt: HostRuntime) -> Result<(), Fail> {
+    let mut config = read_row(&rt, TWO_POSITIONS)?;
+    let mut elements = Elements::new(rt.alloc());
+    elements.push(ElementConfig::Pair {
+        core: CORE,
+        sbr: None,
+        stereo: 3,
+        mps: Some(FULL_MPS),
+    })?;
+    config.elements = elements;
+    assert!(rt; !config.is_well_formed());
+    Ok(())
+}
+
+#[test]
+fn what_a_configuration_stands_for_is_that_of_the_rows(rt: HostRuntime) -> Result<(), Fail> {
+    // the rate, the stream's identifier, whether a preroll is declared, and the leading extension elements
+    let rows = [
+        (MONO, (48000, None, false, 0)),
+        (PREROLL, (48000, None, true, 1)),
+        (STREAM_1, (48000, Some(1), true, 1)),
+        (STREAM_2, (48000, Some(2), true, 1)),
+        (EXPLICIT_RATE, (44056, None, false, 0)),
+        (THREE_BYTES, (48000, None, false, 0)),
+        (SECOND_ID, (48000, Some(261), false, 0)),
+    ];
+    for (row, wanted) in rows {
+        let config = read_row(&rt, row)?;
+        let (rate, id) = (config.rate(), config.stream_id());
+        let found = (rate, id, config.declares_preroll(), config.leading());
+        assert_eq!(rt; found, wanted, "{}", row.1);
     }
     Ok(())
 }
@@ -108,6 +165,8 @@ fn fields_and_lengths_are_those_of_the_rows(rt: HostRuntime) -> Result<(), Fail>
         (TWO_POSITIONS, (3, 1, 0), (0, 1024, 2)),
         (FULL_PAIR, (3, 3, 2), (3, 2048, 2)),
         (PREROLL, (3, 3, 1), (3, 2048, 1)),
+        (STREAM_1, (3, 1, 1), (0, 1024, 1)),
+        (EXPLICIT_RATE, (31, 1, 1), (0, 1024, 1)),
     ];
     for (row, indices, shape) in rows {
         let config = read_row(&rt, row)?;
@@ -115,12 +174,6 @@ fn fields_and_lengths_are_those_of_the_rows(rt: HostRuntime) -> Result<(), Fail>
         assert_eq!(rt; found, indices, "{}", row.1);
         let found = (config.ratio(), config.frame_length(), config.channels());
         assert_eq!(rt; found, shape, "{}", row.1);
-        assert_eq!(rt;
-            (config.rate_explicit, config.extensions.len()),
-            (0, 0),
-            "{}",
-            row.1
-        );
     }
     Ok(())
 }
@@ -171,11 +224,20 @@ fn a_preroll_stands_before_its_single_element(rt: HostRuntime) -> Result<(), Fai
 }
 
 #[test]
-fn an_extension_is_copied(rt: HostRuntime) -> Result<(), Fail> {
-    let bytes = Octets::copy_of(rt.alloc(), b"\x00\x01")?;
-    let copy = ConfigExt { kind: 7, bytes }.copy(rt.alloc())?;
-    assert_eq!(rt; copy.kind, 7);
-    assert_eq!(rt; copy.bytes.as_slice(), b"\x00\x01".as_slice());
+fn extensions_are_those_of_the_rows(rt: HostRuntime) -> Result<(), Fail> {
+    let rows = [
+        (STREAM_1, b"\x00\x01".as_slice(), 1),
+        (THREE_BYTES, b"\x00\x01\x02", 1),
+        (SECOND_ID, b"\x00\x01\x02", 2),
+    ];
+    for (row, bytes, count) in rows {
+        let config = read_row(&rt, row)?;
+        assert_eq!(rt; config.extensions.len(), count, "{}", row.1);
+        if let Some(extension) = config.extensions.get(0) {
+            assert_eq!(rt; extension.kind, 7, "{}", row.1);
+            assert_eq!(rt; extension.bytes.as_slice(), bytes, "{}", row.1);
+        }
+    }
     Ok(())
 }
 
@@ -189,7 +251,6 @@ fn name_and_place(fault: &CfgFault) -> Option<(&'static str, u64)> {
         CfgFault::NoChannels { at } => Some(("NoChannels", *at)),
         CfgFault::TooManyChannels { at } => Some(("TooManyChannels", *at)),
         CfgFault::TooManyElements { at } => Some(("TooManyElements", *at)),
-        CfgFault::FormNotBuilt { at } => Some(("FormNotBuilt", *at)),
         CfgFault::Memory(_) => None,
     }
 }
@@ -212,24 +273,31 @@ fn other_texts_are_refused(rt: HostRuntime) -> Result<(), Fail> {
 
 #[test]
 fn cut_texts_are_short(rt: HostRuntime) -> Result<(), Fail> {
-    // so many bits of a mono configuration, and the first bit of the field that lacks some
+    // so many bits of a configuration, and the first bit of the field that lacks some
     let rows = [
         (0, 0),
         (4, 0),
-        (5, 5),
         (7, 5),
-        (8, 8),
         (12, 8),
-        (13, 13),
-        (17, 17),
-        (19, 19),
-        (20, 20),
-        (21, 21),
+        (16, 13),
+        (18, 17),
+        (22, 19),
+        (26, 23),
+        (27, 27),
+        (28, 28),
+        (30, 29),
+        (31, 31),
+        (32, 32),
+        (33, 33),
+        (35, 34),
+        (39, 36),
+        (43, 40),
+        (59, 44),
     ];
-    let bytes = bytes_of(rt.alloc(), MONO.1)?;
-    assert!(rt; bytes.len() == 3);
+    let bytes = bytes_of(rt.alloc(), STREAM_1.1)?;
+    assert!(rt; bytes.len() == 8);
     for (bits, wanted) in rows {
-        assert!(rt; bits <= 24);
+        assert!(rt; bits <= 64);
         let mut reader = BitReader::within(&bytes, 0, bits);
         let place = match UsacConfig::read(rt.alloc(), &mut reader) {
             Err(CfgFault::Short { at }) => Some(at),

@@ -207,6 +207,13 @@ impl UsacConfig {
 
     /// Whether the two are equal. Well formed configurations are equal exactly where their spellings are.
     pub fn same(&self, other: &UsacConfig) -> bool
+        ensures equal { IsTrue result ↔ (self.now ≡ other.now) }
+        ensures spelled { IsWellFormed self.now → IsWellFormed other.now → IsTrue result ↔ (usac_config.spelling self.now ≡ usac_config.spelling other.now) }
+    {
+        self.has_fields_of(other)
+    }
+
+    fn has_fields_of(&self, other: &UsacConfig) -> bool
         ensures { IsTrue result ↔ (self.now ≡ other.now) }
     {
         self.rate_index == other.rate_index

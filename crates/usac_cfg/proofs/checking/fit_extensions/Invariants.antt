@@ -1,4 +1,4 @@
-use Rattle.std.proofs.Common.{take, ◌<◌}
+use Rattle.std.proofs.Common.{take}
 use Rattle.std.specs.List.{AllByRecursion}
 use Rattle.usac_cfg.specs.ConfigExt.{IsWellFormed}
 use Rattle.usac_cfg.proofs.checking.fit_extensions.Given as goal
