@@ -4,7 +4,6 @@ use Rattle.layout.specs.Layout.{Layout, both, shaped, wrapped, checked, whole, k
 use Rattle.layout.specs.ToEnd.{tail}
 use Rattle.bit_core.specs.declared.faults.Short.{Short}
 use Rattle.bit_core.specs.Plain.{bits, short_at}
-use Rattle.usac_cfg.specs.declared.usac_config.UsacConfig.{UsacConfig}
 use Rattle.usac_cfg.specs.UsacConfig.{IsWellFormed as IsUsacWellFormed}
 use Rattle.usac_cfg.specs.Spelling.{usac_config}
 use Rattle.asc.specs.declared.asc_config.Asc.{Asc}

@@ -1,21 +1,20 @@
 -- An AudioSpecificConfig is read exactly.
-use Rattle.std.proofs.Common.{◌≡◌, ℕ, zero, suc, ◌+◌, ◌^◌, ◌<◌, ◌≤◌, Bool, true, false, List, [], ◌++◌, length, Option, Some, None, refl, sym, ap, ◌∙◌, arith, inl, inr}
-use Rattle.std.specs.Prelude.{◌⊎◌, is_some, ◌==◌, if◌then◌else◌}
-use Rattle.std.proofs.lemmas.Bool.{cases_eq, eqb-true, ne_eqb}
+use Rattle.std.proofs.Common.{◌≡◌, ℕ, ◌+◌, ◌<◌, ◌≤◌, Bool, true, false, List, [], length, Option, Some, None, refl, sym, ap, ◌∙◌, arith}
+use Rattle.std.specs.Prelude.{◌==◌, if◌then◌else◌}
+use Rattle.std.proofs.lemmas.Bool.{eqb-true}
 use Rattle.layout.specs.Layout.{wrapped, whole, checked}
 use Rattle.layout.specs.Exact.{IsExact, IsExactToEnd}
 use Rattle.layout.proofs.Layouts.{both-exact, shaped-exact, wrapped-exact, checked-exact, whole-exact, where_set-exact, known-exact, behind-exact, same-exact, both-open, where_set-open, field-open}
 use Rattle.layout.proofs.ToEnd.{both-to_end, shaped-to_end, same-to_end, tail-to_end}
 use Rattle.layout.specs.Fields.{number as number_field}
-use Rattle.bit_core.specs.Plain.{bits, short_at}
+use Rattle.bit_core.specs.Plain.{short_at}
 use Rattle.bit_core.proofs.PlainFacts.{bits-exact}
 use Rattle.usac_cfg.specs.UsacExact.{usac_config_exact}
 use Rattle.asc.specs.declared.asc_config.Asc.{Asc}
-use Rattle.asc.specs.declared.reading.Head.{Head}
 use Rattle.asc.specs.declared.fault.AscFault.{AscFault}
 use Rattle.asc.specs.declared.fault.AscFault.TheVariants as faults
 use Rattle.asc.specs.Faults.{from_short, from_cfg}
-use Rattle.asc.specs.Asc.{IsWellFormed, IsExplicit, number, type_fields, type_of, not_usac, object_type, explicit, head, head_of, too_long, plain_fields, counted_fields, asc, asc_counted}
+use Rattle.asc.specs.Asc.{IsWellFormed, IsExplicit, number, type_fields, not_usac, object_type, explicit, head, head_of, too_long, plain_fields, counted_fields, asc, asc_counted}
 
 number-exact : (n : ℕ) → IsExact (number n)
 number-exact n = wrapped-exact from_short _ (bits-exact n)
