@@ -7,7 +7,7 @@ use Rattle.std.proofs.lemmas.Nat.{pow_pos}
 use Rattle.layout.specs.Text.{num, is_odd, bits_of, value_after}
 use Rattle.layout.specs.Reader.{Reader, left, moved}
 use Rattle.std.specs.List.{flat_map}
-use Rattle.layout.specs.Layout.{Layout, both, spelling_of}
+use Rattle.layout.specs.Layout.{spelling_of}
 use Rattle.layout.specs.Exact.{IsExact}
 use Rattle.layout.specs.Reading.{GivesUnless}
 use Rattle.layout.proofs.TextLemmas.{num-split, length-num, value_after-num, length-bits_of}

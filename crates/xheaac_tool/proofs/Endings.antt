@@ -15,14 +15,14 @@ use Rattle.xheaac_tool.specs.Reading.{Reading, most_bytes}
 use Rattle.xheaac_tool.specs.Taking.{Takes}
 use Rattle.xheaac_tool.specs.Carrying.{Choice, Carries, IsBuilt, IsLongest, in_force_behind}
 use Rattle.xheaac_tool.specs.Jobs.{Job, GivesOutput, step_through, bytes_through}
-use Rattle.xheaac_tool.specs.Commands.{Command, fed_for}
+use Rattle.xheaac_tool.specs.Commands.{fed_for}
 use Rattle.xheaac_tool.specs.OneFrame.{OfFrame}
 use Rattle.xheaac_tool.specs.Ending.{Traces, WroteAll, WroteFront, IsBroken, Ends, DoesFile, OfFile, remains_of}
 use Rattle.xheaac_tool.specs.Doing.{GoesOn, DidAll, DidFront, IsRefusal, Stops, DoesSource}
 use Rattle.xheaac_tool.proofs.Found.{partial-empty}
 use Rattle.xheaac_tool.proofs.Runs.{carries_more, carries_push, stuck_longest, partial_stuck, first_of_longest, exists_longest}
 use Rattle.xheaac_tool.specs.Outputs.{bytes_append}
-use Rattle.xheaac_tool.proofs.Going.{fed_none, fed_later, carried_on, frame_here, in_force_is, prepend-none, append-none}
+use Rattle.xheaac_tool.proofs.Going.{fed_none, carried_on, frame_here, in_force_is, prepend-none, append-none}
 use Rattle.xheaac_tool.proofs.Pieces.{prepend-prepend}
 
 -- the bytes of a source that tells

@@ -6,7 +6,7 @@ use Rattle.std.specs.Io.KnownBytes.{append_known}
 use Rattle.std.proofs.lemmas.List.{take_all}
 use Rattle.core_iface.specs.Decoding.{Definitions}
 use Rattle.xheaac_tool.specs.Carrying.{Choice, Carries, IsLongest}
-use Rattle.xheaac_tool.specs.Commands.{Command, fed_for}
+use Rattle.xheaac_tool.specs.Commands.{Command}
 use Rattle.xheaac_tool.specs.Jobs.{Job, GivesOutput, bytes_through}
 use Rattle.xheaac_tool.specs.Causes.{Counts, Caused}
 use Rattle.xheaac_tool.specs.Handing.{WrotePart}

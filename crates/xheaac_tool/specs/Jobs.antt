@@ -1,5 +1,5 @@
 -- A command frame by frame, as the code does it. `GivesOutput` ties the steps to the command's output.
-use Rattle.std.specs.Prelude.{◌≡◌, ℕ, Bool, false, List, [], ◌∷◌, ◌++◌, Option}
+use Rattle.std.specs.Prelude.{◌≡◌, ℕ, false, List, [], ◌∷◌, ◌++◌, Option}
 use Rattle.core_iface.specs.Answering.{Running}
 use Rattle.xheaac_tool.specs.declared.frame.Frame.{Frame}
 use Rattle.xheaac_tool.specs.Carrying.{Carries}

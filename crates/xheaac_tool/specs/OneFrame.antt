@@ -18,7 +18,6 @@ use Rattle.xheaac_tool.specs.declared.frame_end.FrameEnd.{FrameEnd}
 use Rattle.xheaac_tool.specs.declared.frame_end.FrameEnd.TheVariants as ends
 use Rattle.xheaac_tool.specs.Carrying.{IsBuilt}
 use Rattle.xheaac_tool.specs.Handing.{WrotePart}
-use Rattle.xheaac_tool.specs.Output.{IsServed, usac_of}
 use Rattle.xheaac_tool.specs.Stepping.{set_up}
 use Rattle.xheaac_tool.specs.Jobs.{Job}
 use Rattle.xheaac_tool.specs.Commands.{fed_for}

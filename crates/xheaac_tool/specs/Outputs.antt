@@ -1,5 +1,5 @@
 -- The steps of each command give its output.
-use Rattle.std.proofs.Common.{◌≡◌, ℕ, Bool, true, false, not, List, [], ◌∷◌, ◌++◌, Option, Some, None, ℤ, refl, sym, ap, ◌∙◌, append_assoc}
+use Rattle.std.proofs.Common.{◌≡◌, ℕ, Bool, true, false, not, List, [], ◌∷◌, ◌++◌, Option, Some, None, refl, sym, ap, ◌∙◌, append_assoc}
 use Rattle.std.proofs.lemmas.List.{append-nil}
 use Rattle.std.specs.Prelude.{is_some, ◌&&◌}
 use Rattle.layout.specs.Text.{bits_of}
@@ -8,9 +8,9 @@ use Rattle.core_iface.specs.Answering.{Running, running, stepped, emitted, emitt
 use Rattle.core_iface.specs.Samples.{sample_bytes, sample_bytes-append}
 use Rattle.asc.specs.declared.asc_config.Asc.{Asc}
 use Rattle.xheaac_tool.specs.declared.frame.Frame.{Frame}
-use Rattle.xheaac_tool.specs.Carrying.{Choice, Carries, IsBuilt, first_bit}
+use Rattle.xheaac_tool.specs.Carrying.{Carries, IsBuilt, first_bit}
 use Rattle.xheaac_tool.specs.Jobs.{Job, GivesOutput, bytes_through, step_through}
-use Rattle.xheaac_tool.specs.Output.{unit_of, units_of, config_of, decoded, output, opens_playable, is_empty, play_takes}
+use Rattle.xheaac_tool.specs.Output.{unit_of, units_of, opens_playable, is_empty, play_takes}
 use Rattle.xheaac_tool.specs.Stepping.{play_job}
 use Rattle.xheaac_tool.specs.Showing.{show_job}
 

@@ -1,8 +1,7 @@
 -- What `show` writes for the frames of a stream: so far the lines of each StreamMuxConfig.
-use Rattle.std.specs.Prelude.{ℕ, Bool, true, false, List, [], ◌∷◌, ◌++◌, Option, Some, None, codes}
+use Rattle.std.specs.Prelude.{ℕ, true, false, List, [], ◌++◌, Option, Some, None, codes}
 use Rattle.std.specs.List.{flat_map}
 use Rattle.core_iface.specs.Decoding.{Definitions}
-use Rattle.core_iface.specs.Answering.{Running}
 use Rattle.asc.specs.declared.asc_config.Asc.{Asc}
 use Rattle.tool_text.specs.Lines.{lines_of}
 use Rattle.xheaac_tool.specs.declared.frame.Frame.{Frame}

@@ -1,10 +1,9 @@
 -- The job of `play`: frames given to a core one after another. `proofs/Outputs.antt` proves that this gives `output`.
-use Rattle.std.specs.Prelude.{List, Option, Some, None, IsSome}
+use Rattle.std.specs.Prelude.{Option, Some, None, IsSome}
 use Rattle.core_iface.specs.Decoding.{Definitions}
 use Rattle.core_iface.specs.Answering.{Running, running, stepped, emitted}
 use Rattle.core_iface.specs.Samples.{sample_bytes}
 use Rattle.asc.specs.declared.asc_config.Asc.{Asc}
-use Rattle.xheaac_tool.specs.declared.frame.Frame.{Frame}
 use Rattle.xheaac_tool.specs.Jobs.{Job}
 use Rattle.xheaac_tool.specs.Output.{unit_of, playing}
 

@@ -1,4 +1,4 @@
-use Rattle.std.proofs.Common.{◌≡◌, ap, ◌∙◌}
+use Rattle.std.proofs.Common.{ap, ◌∙◌}
 use Rattle.xheaac_tool.proofs.Endings.{does_begun, not_begun, not_begun_memory, left_of_others, taken_begun, taken_not, taken_not_memory}
 use Rattle.xheaac_tool.proofs.command.run_file.Goals as goal
 

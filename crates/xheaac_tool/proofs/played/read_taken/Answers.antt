@@ -1,4 +1,4 @@
-use Rattle.std.proofs.Common.{sym, ◌∙◌}
+use Rattle.std.proofs.Common.{sym}
 use Rattle.std.proofs.lemmas.Result.{err_from_is_err_and}
 use Rattle.xheaac_tool.specs.Output.{play_takes}
 use Rattle.xheaac_tool.proofs.BuiltFrames.{not_taken}

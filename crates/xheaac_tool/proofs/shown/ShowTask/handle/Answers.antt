@@ -1,10 +1,8 @@
-use Rattle.std.proofs.Common.{Bool, refl, sym, ap, arith, rules, ◌∙◌, Option}
+use Rattle.std.proofs.Common.{refl, sym, ap, arith, rules, ◌∙◌, Option}
 use Rattle.std.specs.Io.KnownBytes.{append_known}
 use Rattle.std.proofs.lemmas.Result.{err_from_is_err_and}
 use Rattle.asc.specs.declared.asc_config.Asc.{Asc}
-use Rattle.xheaac_tool.specs.Carrying.{Choice}
 use Rattle.xheaac_tool.specs.Showing.{show_job, shown_of_opening}
-use Rattle.xheaac_tool.specs.Commands.{Command}
 use Rattle.xheaac_tool.proofs.FrameSteps.{not_handled, none_taken}
 use Rattle.xheaac_tool.proofs.Going.{append-none}
 use Rattle.xheaac_tool.proofs.Lines.{show_stopped}
