@@ -1,0 +1,5 @@
+pub mod Faults
+pub mod Pairs
+pub mod PairsExact
+pub mod MuxConfig
+pub mod MuxConfigExact

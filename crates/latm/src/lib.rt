@@ -1,0 +1,18 @@
+//! The mux of LATM: AudioMuxElement and StreamMuxConfig (ISO/IEC 14496-3), read and written.
+//!
+//! One program of one layer is taken, as each kind of the configuration spells it. What is read is well formed and takes
+//! exactly its spelling; a text that begins with no spelling is refused at the first bit of its leftmost field at fault,
+//! and the reader stays where it was. A write puts exactly the spelling, or nothing.
+#![tactic(auto)]
+
+mod fault;
+mod format;
+mod mux_config;
+mod other_length;
+mod pairs;
+mod reading;
+mod writing;
+
+pub use fault::{MuxFault, MuxField};
+pub use mux_config::MuxConfig;
+pub use other_length::OtherLength;
