@@ -3,3 +3,5 @@ pub mod Pairs
 pub mod PairsExact
 pub mod MuxConfig
 pub mod MuxConfigExact
+pub mod MuxElement
+pub mod MuxElementExact

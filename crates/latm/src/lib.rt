@@ -5,9 +5,11 @@
 //! and the reader stays where it was. A write puts exactly the spelling, or nothing.
 #![tactic(auto)]
 
+mod element_reading;
 mod fault;
 mod format;
 mod mux_config;
+mod mux_element;
 mod other_length;
 mod pairs;
 mod reading;
@@ -15,4 +17,5 @@ mod writing;
 
 pub use fault::{MuxFault, MuxField};
 pub use mux_config::MuxConfig;
+pub use mux_element::{MuxElement, Slots, read_element};
 pub use other_length::OtherLength;
