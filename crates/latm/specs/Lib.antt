@@ -5,3 +5,4 @@ pub mod MuxConfig
 pub mod MuxConfigExact
 pub mod MuxElement
 pub mod MuxElementExact
+pub mod Written

@@ -88,3 +88,24 @@ impl From<AllocError> for MuxFault {
         MuxFault::Memory(fault)
     }
 }
+
+/// Why an element was not written.
+#[derive(Debug, Drop, Error)]
+pub enum WriteFault {
+    /// The element would have more than 8191 bytes.
+    #[error("too long")]
+    TooLong,
+    /// There was no memory.
+    #[error("out of memory")]
+    Memory(AllocError),
+}
+
+impl From<AllocError> for WriteFault {
+    ghost use Rattle.latm.specs.declared.fault.WriteFault.TheVariants as faults;
+
+    ghost from_gives = { λ a e. e ≡ faults.Memory a };
+
+    fn from(fault: AllocError) -> WriteFault {
+        WriteFault::Memory(fault)
+    }
+}

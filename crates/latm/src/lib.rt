@@ -5,7 +5,9 @@
 //! and the reader stays where it was. A write puts exactly the spelling, or nothing.
 #![tactic(auto)]
 
+mod element_bytes;
 mod element_reading;
+mod element_writing;
 mod fault;
 mod format;
 mod mux_config;
@@ -15,7 +17,8 @@ mod pairs;
 mod reading;
 mod writing;
 
-pub use fault::{MuxFault, MuxField};
+pub use element_bytes::{canonical, framed, write_element};
+pub use fault::{MuxFault, MuxField, WriteFault};
 pub use mux_config::MuxConfig;
 pub use mux_element::{MuxElement, Slots, read_element};
 pub use other_length::OtherLength;
