@@ -21,7 +21,7 @@ frames_by text body slice frame is spelled le framed =
     record {
       ok = (
         ap (λ (xs : List ℕ). bits_of xs) framed ∙ bits_of-append (header (length slice)) slice ∙ ap (λ (k : ℕ). bits_of (header k) ++ bits_of slice) n
-        ∙ ap (λ (t : List Bool). bits_of (header (length text / 8)) ++ t) (ap (λ (xs : List ℕ). bits_of xs) is ∙ spelled),
+            ∙ ap (λ (t : List Bool). bits_of (header (length text / 8)) ++ t) (ap (λ (xs : List ℕ). bits_of xs) is ∙ spelled),
         le,
       );
       err = tt;
@@ -41,19 +41,3 @@ canonical_well (Some v) h = record {
   other = tt;
   crc = tt;
 }
-
--- an element of one slot, without other data and tail
-abbrev single : Option MuxConfig → List ℕ → List Bool
-single m au = (opening false).spelling m ++ slot_of_bytes.spelling au
-
-single_text : (o : Option Asc) (au : List ℕ) → element_text (canonical_element o au) ≡ single (config_of o) au
-single_text o au = ap (λ (t : List Bool). (opening false).spelling (config_of o) ++ t) (append-nil (slot_of_bytes.spelling au ++ []) ∙ append-nil (slot_of_bytes.spelling au))
-
-pub single_written : (o : Option Asc) (au : List ℕ) (m : Option MuxConfig) (old new : List Bool) → old ≡ [] → m ≡ config_of o → new ≡ old ++ single m au → new ≡ element_text (canonical_element o au)
-single_written o au m old new none is written =
-    written ∙ ap (λ (t : List Bool). t ++ single m au) none ∙ ap (λ (c : Option MuxConfig). single c au) is ∙ sym (single_text o au)
-
-pub single_over : (o : Option Asc) (au : List ℕ) (m : Option MuxConfig) → m ≡ config_of o → 65528 < length (single m au) → 65528 < length (canonical_text o au)
-single_over o au m is over =
-    let text = element_text (canonical_element o au) in
-    omega (arith, over, ap (λ (c : Option MuxConfig). length (single c au)) is, ap (λ (t : List Bool). length t) (single_text o au), length-append text (replicate ((8 - length text % 8) % 8) false))

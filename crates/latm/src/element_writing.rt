@@ -60,7 +60,11 @@ pub fn write_fields(element: &MuxElement, writer: &mut BitWriter) -> Result<(), 
 }
 
 /// Writes an element of one slot, without other data and tail.
-pub fn write_single(config: &Option<MuxConfig>, slot: &[u8], writer: &mut BitWriter) -> Result<(), WriteFault>
+pub fn write_single(
+    config: &Option<MuxConfig>,
+    slot: &[u8],
+    writer: &mut BitWriter,
+) -> Result<(), WriteFault>
     requires { FitsOption IsWellFormed config.now }
     ensures ok { OnOk result (writer.new ≡ writer.old ++ ((opening false).spelling config.now ++ slot_of_bytes.spelling slot.now)) }
     ensures err { IfErr result (λ f. is_memory f ≡ false → 65528 < length ((opening false).spelling config.now ++ slot_of_bytes.spelling slot.now)) }
