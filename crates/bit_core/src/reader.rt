@@ -1,6 +1,7 @@
 ghost use Rattle.std.specs.Prelude.{◌≡◌, ◌+◌, ◌-◌, ◌*◌, ◌^◌, ◌<◌, ◌≤◌, ◌↔◌, ◌++◌, length, take, IfOk, OnErr, IfErr, IsErr, OnOk, IsErrOf};
 ghost use Rattle.layout.specs.Text.{num, bits_of};
 ghost use Rattle.layout.specs.Reader.{left, moved};
+ghost use Rattle.layout.specs.ToEnd.{window};
 ghost use Rattle.layout.specs.Layout.{wrapped};
 ghost use Rattle.layout.specs.Reading.{Gives, GivesUnless, Reads, ReadsUnless};
 ghost use Rattle.bit_core.specs.Plain.{bits, octets, bit_run};
@@ -85,6 +86,18 @@ impl<'a> BitReader<'a> {
         ensures { result ≡ length (left self.now) }
     {
         self.end - self.at
+    }
+
+    /// A reader of the next n bits alone, of which at least so many are left. It counts places as this one does.
+    pub fn ahead(&self, n: u64) -> BitReader<'a>
+        requires { n ≤ length (left self.now) }
+        ensures { result ≡ window self.now n }
+    {
+        BitReader {
+            bytes: self.bytes,
+            at: self.at,
+            end: self.at + n,
+        }
     }
 
     /// Goes back to a place, in bits, that the reader has passed or stands at.

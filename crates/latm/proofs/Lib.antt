@@ -1,0 +1,5 @@
+pub mod RunSteps
+pub mod PairWrites
+pub mod PartWrites
+pub mod SlotWrites
+pub mod FrameWrites

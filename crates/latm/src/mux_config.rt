@@ -1,0 +1,80 @@
+ghost use Rattle.std.specs.Prelude.{◌≡◌, ◌++◌, OnOk, OnErr};
+ghost use Rattle.layout.specs.Reading.{GivesUnless, ReadsUnless};
+
+use crate::fault::MuxFault;
+use crate::other_length::OtherLength;
+use crate::reading::read_fields;
+use crate::writing::write_fields;
+use asc::Asc;
+use bit_core::{BitReader, BitWriter};
+use esc_value::LatmValue;
+use std::alloc::{AllocError, Global};
+
+/// A StreamMuxConfig of one program of one layer (ISO/IEC 14496-3).
+///
+/// Well formed where each number fits in its bits; `tara` and `asc_length` are there exactly for version 1, and then
+/// `asc_length` counts the bits of the AudioSpecificConfig with its tail; in version 0 it has no tail; `other` is of the
+/// kind of its version.
+#[derive(Debug, Drop)]
+pub struct MuxConfig {
+    /// `audioMuxVersion`, 0 or 1.
+    pub version: u8,
+    /// `taraBufferFullness`
+    pub tara: Option<LatmValue>,
+    /// `numSubFrames`, from 0 to 63: an element has one slot more.
+    pub sub_frames: u8,
+    /// `ascLen`, in bits.
+    pub asc_length: Option<LatmValue>,
+    pub asc: Asc,
+    /// `latmBufferFullness`, from 0 to 255.
+    pub fullness: u8,
+    /// The number of bits of other data behind the slots, where `otherDataPresent` is 1.
+    pub other: Option<OtherLength>,
+    /// `crcCheckSum`, where `crcCheckPresent` is 1. It is kept, and compared with nothing.
+    pub crc: Option<u8>,
+}
+
+impl MuxConfig {
+    ghost use Rattle.latm.specs.MuxConfig.{IsWellFormed, mux_config};
+    ghost use Rattle.latm.specs.Faults.{is_memory};
+
+    /// Reads a configuration, which is well formed.
+    ///
+    /// Errors: the fault of the leftmost field at fault, at its first bit, or want of memory; the reader stays where it was.
+    /// The whole length of other data is one field, refused as soon as its number exceeds 65,535. Where `ascLen` exceeds the
+    /// bits that are left, they are too few at the first bit behind it; else so many bits are judged by themselves.
+    pub fn read(alloc: Global, reader: &mut BitReader) -> Result<MuxConfig, MuxFault>
+        ensures reads { ReadsUnless is_memory mux_config reader.old reader.new result }
+
+        // For the proofs of the readers above.
+        ensures exact { GivesUnless is_memory mux_config reader.old reader.new result }
+    {
+        let start = reader.at();
+        match read_fields(alloc, reader) {
+            Ok(config) => Ok(config),
+            Err(fault) => {
+                reader.back_to(start);
+                Err(fault)
+            }
+        }
+    }
+
+    /// Writes a well formed configuration.
+    ///
+    /// Errors: want of memory; nothing is written.
+    #[tactic(auto, using(bit_core::proofs::Writing::extends_cut, bit_core::proofs::Writing::extends_long))]
+    pub fn write(&self, writer: &mut BitWriter) -> Result<(), AllocError>
+        requires { IsWellFormed self.now }
+        ensures ok { OnOk result (writer.new ≡ writer.old ++ mux_config.spelling self.now) }
+        ensures err { OnErr result (writer.new ≡ writer.old) }
+    {
+        let start = writer.len();
+        match write_fields(self, writer) {
+            Ok(()) => Ok(()),
+            Err(fault) => {
+                writer.truncate(start);
+                Err(fault)
+            }
+        }
+    }
+}
