@@ -78,3 +78,7 @@ pub record ReadsText {A F : Type 0} (free : F → Bool) (L : Layout A F) (text :
   -- a fault is the first one, and the first one is answered
   pub fault : IfErr result (λ f. free f ≡ false → L.Faults 0 f text)
   pub first : (f : F) → L.Faults 0 f text → IsErrAnd result (λ g. free g ≡ false → g ≡ f)
+
+-- Whatever is in force, two elements with one spelling are the same.
+abbrev pub IsSpelledOnce : Type 0
+IsSpelledOnce = (before : Option MuxConfig) (v w : MuxElement) → (element before).Fits v → (element before).Fits w → (element before).spelling v ≡ (element before).spelling w → v ≡ w

@@ -5,7 +5,7 @@ use Rattle.layout.specs.Reader.{Reader}
 use Rattle.layout.specs.Layout.{Layout}
 use Rattle.layout.specs.Exact.{IsExact, IsExactToEnd}
 use Rattle.layout.specs.Reading.{GivesUnless, ReadsAllUnless}
-use Rattle.layout.proofs.Layouts.{both-exact, shaped-exact, wrapped-exact, checked-exact, where_set-exact, times-exact}
+use Rattle.layout.proofs.Layouts.{both-exact, shaped-exact, wrapped-exact, checked-exact, where_set-exact, times-exact, ok_is}
 use Rattle.layout.proofs.ToEnd.{both-to_end, shaped-to_end, rest-to_end, reads_all_unless, all_unless_back}
 use Rattle.bit_core.proofs.PlainFacts.{bit-exact, octets-exact, bit_run-exact}
 use Rattle.bit_core.specs.declared.faults.ReadFault.TheVariants as reads
@@ -13,7 +13,9 @@ use Rattle.esc_value.proofs.SlotExact.{slot_exact}
 use Rattle.latm.specs.declared.mux_config.MuxConfig.{MuxConfig}
 use Rattle.latm.specs.Faults.{from_short, from_read}
 use Rattle.latm.specs.MuxConfigExact.{mux_config_exact}
-use Rattle.latm.specs.MuxElement.{then_in_force, slot_count, other_bits, same_refused, same, opening, slot_of_bytes, other_data, body, element, ReadsText}
+use Rattle.latm.specs.declared.fault.MuxFault.{MuxFault}
+use Rattle.latm.specs.declared.mux_element.MuxElement.{MuxElement}
+use Rattle.latm.specs.MuxElement.{IsSpelledOnce, then_in_force, slot_count, other_bits, same_refused, same, opening, slot_of_bytes, other_data, body, element, ReadsText}
 
 same-exact : (in_force : Bool) → IsExact (same in_force)
 same-exact in_force = checked-exact (same_refused in_force) _ (wrapped-exact from_short _ bit-exact)
@@ -46,3 +48,10 @@ reads_text free L l text new (Ok v) gives = text_by free L text new (Ok v) (read
 reads_text free L l text new (Err f) gives =
     let back : Reader = record { text = new.text; at = 0 } in
     text_by free L text back (Err f) (all_unless_back free L l (record { text = text; at = 0 }) new back f 0 gives refl refl)
+
+pub spelled_once : IsSpelledOnce
+spelled_once before v w fv fw e =
+    let start : Reader = record { text = (element before).spelling v; at = 0 } in
+    let one = (element_exact before).again start v fv refl in
+    let two = (element_exact before).again start w fw e in
+    ap (λ (x : MuxElement × Reader). x.0) (ok_is {F = MuxFault} _ _ (sym one ∙ two))

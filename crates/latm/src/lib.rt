@@ -10,11 +10,14 @@ mod element_reading;
 mod element_writing;
 mod fault;
 mod format;
+pub mod laws;
 mod mux_config;
 mod mux_element;
 mod other_length;
 mod pairs;
 mod reading;
+#[cfg(test)]
+mod tests;
 mod writing;
 
 pub use element_bytes::{canonical, framed, write_element};

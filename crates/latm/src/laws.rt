@@ -1,0 +1,16 @@
+//! No spelling of one configuration begins another's, and no two elements are spelled the same under one configuration.
+//!
+//! The functions run no code; their contracts are the theorems.
+ghost use Rattle.layout.specs.Laws.{HasOneSpelling};
+ghost use Rattle.latm.specs.MuxConfig.{mux_config};
+ghost use Rattle.latm.specs.MuxElement.{element, IsSpelledOnce};
+
+/// No spelling of a StreamMuxConfig is a prefix of another's.
+pub fn mux_config_has_one_spelling()
+    ensures { HasOneSpelling mux_config }
+{}
+
+/// Under each configuration in force, and under none, two elements of the same bytes are the same element.
+pub fn elements_are_spelled_once()
+    ensures { IsSpelledOnce }
+{}
