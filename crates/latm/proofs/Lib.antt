@@ -4,3 +4,4 @@ pub mod PartWrites
 pub mod SlotWrites
 pub mod FrameWrites
 pub mod Streams
+pub mod ReadBack
