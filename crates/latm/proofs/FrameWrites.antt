@@ -1,16 +1,12 @@
 -- Frames, and the canonical mux.
-use Rattle.std.proofs.Common.{◌≡◌, ℕ, ◌+◌, ◌-◌, ◌*◌, ◌/◌, ◌%◌, ◌<◌, ◌≤◌, Bool, true, false, List, [], ◌∷◌, ◌++◌, length, replicate, Option, Some, None, Result, Ok, Err, refl, sym, ap, subst, ◌∙◌, append_assoc, arith}
-use Rattle.std.proofs.lemmas.List.{append-nil, length-append}
-use Rattle.layout.specs.Text.{bits_of, pad}
+use Rattle.std.proofs.Common.{◌≡◌, ℕ, ◌/◌, ◌≤◌, Bool, List, ◌++◌, length, Option, Some, None, Ok, refl, ap, ◌∙◌, arith}
+use Rattle.layout.specs.Text.{bits_of}
 use Rattle.layout.specs.Layout.{FitsOption}
 use Rattle.layout.proofs.TextLemmas.{length-bits_of, bits_of-append}
 use Rattle.asc.specs.declared.asc_config.Asc.{Asc}
 use Rattle.asc.specs.Asc.{IsWellFormed as IsAscWellFormed}
-use Rattle.latm.specs.declared.fault.WriteFault.{WriteFault}
-use Rattle.latm.specs.declared.mux_config.MuxConfig.{MuxConfig}
 use Rattle.latm.specs.MuxConfig.{IsWellFormed}
-use Rattle.latm.specs.MuxElement.{opening, slot_of_bytes}
-use Rattle.latm.specs.Written.{is_memory, element_text, header, Writes, Frames, canonical_config, config_of, canonical_element, canonical_text}
+use Rattle.latm.specs.Written.{header, Frames, config_of}
 
 pub short_body : (text : List Bool) (body slice : List ℕ) → slice ≡ body → bits_of body ≡ text → length text ≤ 65528 → length slice ≤ 8191
 short_body text body slice is spelled le = omega (arith, le, ap (λ (t : List Bool). length t) spelled, length-bits_of body, ap (λ (xs : List ℕ). length xs) is)

@@ -3,3 +3,5 @@ pub mod PairWrites
 pub mod PartWrites
 pub mod SlotWrites
 pub mod FrameWrites
+pub mod Streams
+pub mod ReadBack

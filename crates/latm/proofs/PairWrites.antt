@@ -1,9 +1,9 @@
 -- Pairs that are written one after another.
-use Rattle.std.proofs.Common.{◌≡◌, ℕ, zero, suc, ◌+◌, ◌-◌, ◌/◌, ◌%◌, ◌<◌, ◌≤◌, Bool, true, false, List, [], ◌∷◌, ◌++◌, sym, ap, ◌∙◌, append_assoc, arith, refl}
+use Rattle.std.proofs.Common.{◌≡◌, ℕ, suc, ◌+◌, ◌-◌, ◌/◌, ◌%◌, ◌<◌, ◌≤◌, Bool, true, List, ◌∷◌, ◌++◌, sym, ap, ◌∙◌, append_assoc, arith, refl}
 use Rattle.std.proofs.lemmas.List.{append-nil}
 use Rattle.layout.specs.Text.{num}
-use Rattle.latm.specs.Pairs.{more_text, run_text}
-use Rattle.latm.specs.PairsExact.{more_text_peel, more_text_none, run_of}
+use Rattle.latm.specs.Pairs.{more_text}
+use Rattle.latm.specs.PairsExact.{more_text_peel, more_text_none}
 
 -- one more pair, whose byte is the whole number
 pub byte_more : (n b : ℕ) → b < 256 → more_text (n + 1) b ≡ more_text n 0 ++ true ∷ num 8 b

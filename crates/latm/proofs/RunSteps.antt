@@ -1,14 +1,13 @@
 -- A run that is read pair by pair.
-use Rattle.std.proofs.Common.{◌≡◌, ℕ, zero, suc, ◌+◌, ◌-◌, ◌*◌, ◌<◌, ◌≤◌, Bool, true, false, List, [], ◌∷◌, ◌++◌, length, Result, Ok, Err, refl, sym, ap, ◌∙◌, arith, inl, inr}
+use Rattle.std.proofs.Common.{◌≡◌, ℕ, suc, ◌+◌, ◌-◌, ◌*◌, ◌<◌, ◌≤◌, Bool, true, false, List, ◌∷◌, ◌++◌, length, Result, Ok, Err, refl, sym, ap, ◌∙◌, arith, inl, inr}
 use Rattle.std.proofs.lemmas.List.{length-append}
 use Rattle.bit_core.specs.declared.faults.Short.{Short}
 use Rattle.layout.specs.Text.{num}
-use Rattle.layout.specs.Reader.{Reader, left, moved}
+use Rattle.layout.specs.Reader.{Reader, left}
 use Rattle.layout.specs.Layout.{◌>>=◌, at_start}
 use Rattle.layout.specs.Reading.{Gives}
 use Rattle.layout.proofs.TextLemmas.{length-num}
 use Rattle.bit_core.specs.Plain.{short_at}
-use Rattle.latm.specs.declared.pairs.Run.{Run}
 use Rattle.latm.specs.Pairs.{pair, is_last, run_step, run_read, run}
 use Rattle.latm.specs.PairsExact.{pair-exact, run_of, step_last, step_more, last_cases}
 

@@ -5,4 +5,5 @@ pub mod MuxConfig
 pub mod MuxConfigExact
 pub mod MuxElement
 pub mod MuxElementExact
+pub mod Stream
 pub mod Written

@@ -1,5 +1,5 @@
 -- StreamMuxConfig of one program of one layer, field by field (ISO/IEC 14496-3).
-use Rattle.std.specs.Prelude.{◌≡◌, ℕ, ◌^◌, ◌<◌, ◌≤◌, Bool, true, false, List, [], length, Option, Some, None, is_some, ◌==◌, nat_lt, if◌then◌else◌}
+use Rattle.std.specs.Prelude.{◌≡◌, ℕ, ◌^◌, ◌<◌, ◌≤◌, Bool, true, false, [], length, Option, Some, None, is_some, ◌==◌, nat_lt, if◌then◌else◌}
 use Rattle.layout.specs.Layout.{Layout, both, shaped, wrapped, checked, constant, where_set, behind, FitsOption}
 use Rattle.layout.specs.Tagged.{as_variant}
 use Rattle.layout.specs.ToEnd.{inside}
@@ -17,7 +17,7 @@ use Rattle.latm.specs.declared.other_length.OtherLength.{OtherLength}
 use Rattle.latm.specs.declared.other_length.OtherLength.TheVariants.{Pairs, Value}
 use Rattle.latm.specs.declared.pairs.Run.{Run}
 use Rattle.latm.specs.Faults.{from_short, from_asc}
-use Rattle.latm.specs.Pairs.{run, run_text, largest}
+use Rattle.latm.specs.Pairs.{run, largest}
 
 -- a length of other data is at most the largest, and goes with its version: pairs with 0, a value with 1
 abbrev pub IsOther : Bool → OtherLength → Type 0

@@ -1,10 +1,8 @@
 -- A StreamMuxConfig is read exactly.
-use Rattle.std.proofs.Common.{◌≡◌, ℕ, ◌^◌, ◌<◌, ◌≤◌, Bool, true, false, List, [], ◌++◌, length, Option, Some, None, Result, Ok, Err, refl, sym, ap, ◌∙◌, arith, inl, inr}
-use Rattle.std.specs.Prelude.{is_some, ◌==◌, nat_lt, if◌then◌else◌}
+use Rattle.std.proofs.Common.{◌≡◌, ℕ, ◌<◌, ◌≤◌, Bool, true, false, Option, Some, None, Result, Ok, Err, refl, sym, ap, ◌∙◌, arith, inl, inr}
+use Rattle.std.specs.Prelude.{is_some, ◌==◌}
 use Rattle.std.proofs.lemmas.Bool.{cases_lt, le-ltb, lt-ltb}
-use Rattle.layout.specs.Reader.{Reader}
-use Rattle.layout.specs.Layout.{Layout, wrapped, error_mapped, checked, where_set, behind, FitsOption}
-use Rattle.layout.specs.ToEnd.{inside}
+use Rattle.layout.specs.Layout.{Layout, wrapped, error_mapped, behind, FitsOption}
 use Rattle.layout.specs.Exact.{IsExact, IsExactToEnd}
 use Rattle.layout.proofs.Layouts.{both-exact, shaped-exact, wrapped-exact, checked-exact, where_set-exact, constant-exact, behind-exact, same-exact}
 use Rattle.layout.proofs.TaggedExact.{as_variant-exact}
@@ -14,7 +12,7 @@ use Rattle.esc_value.specs.declared.latm_value.LatmValue.{LatmValue}
 use Rattle.esc_value.specs.LatmValue.{IsWellFormed as IsLatmWellFormed}
 use Rattle.esc_value.specs.LatmExact.{latm_value_exact}
 use Rattle.asc.specs.declared.asc_config.Asc.{Asc}
-use Rattle.asc.specs.Asc.{IsWellFormed as IsAscWellFormed, asc, asc_counted}
+use Rattle.asc.specs.Asc.{IsWellFormed as IsAscWellFormed}
 use Rattle.asc.specs.AscExact.{asc_exact, asc_counted_exact}
 use Rattle.latm.specs.declared.fault.MuxField.{MuxField}
 use Rattle.latm.specs.declared.fault.MuxField.TheVariants as names
@@ -24,7 +22,6 @@ use Rattle.latm.specs.declared.other_length.OtherLength.{OtherLength}
 use Rattle.latm.specs.declared.other_length.OtherLength.TheVariants.{Pairs, Value}
 use Rattle.latm.specs.declared.pairs.Run.{Run}
 use Rattle.latm.specs.Faults.{from_short, from_asc}
-use Rattle.latm.specs.Pairs.{IsRun, run, largest}
 use Rattle.latm.specs.PairsExact.{run_exact, run_of}
 use Rattle.latm.specs.MuxConfig.{IsOther, IsCounted, IsWellFormed, number, flag, latm, out_of, fixed, of_version, short_at, asc_of, configuration, other_over, pairs, pairs_of, value_of, other_length, head, last, fields, mux_config}
 

@@ -1,5 +1,5 @@
 -- An AudioMuxElement is read exactly.
-use Rattle.std.proofs.Common.{◌≡◌, ℕ, Bool, true, false, List, length, Option, Some, None, Result, Ok, Err, refl, sym, ap, ◌∙◌}
+use Rattle.std.proofs.Common.{◌≡◌, ℕ, Bool, true, false, List, Option, Result, Ok, Err, refl, sym, ap, ◌∙◌}
 use Rattle.std.specs.Prelude.{is_some, not}
 use Rattle.layout.specs.Reader.{Reader}
 use Rattle.layout.specs.Layout.{Layout}
@@ -15,7 +15,7 @@ use Rattle.latm.specs.Faults.{from_short, from_read}
 use Rattle.latm.specs.MuxConfigExact.{mux_config_exact}
 use Rattle.latm.specs.declared.fault.MuxFault.{MuxFault}
 use Rattle.latm.specs.declared.mux_element.MuxElement.{MuxElement}
-use Rattle.latm.specs.MuxElement.{IsSpelledOnce, then_in_force, slot_count, other_bits, same_refused, same, opening, slot_of_bytes, other_data, body, element, ReadsText}
+use Rattle.latm.specs.MuxElement.{IsSpelledOnce, then_in_force, slot_count, other_bits, same_refused, same, opening, slot_of_bytes, body, element, ReadsText}
 
 same-exact : (in_force : Bool) → IsExact (same in_force)
 same-exact in_force = checked-exact (same_refused in_force) _ (wrapped-exact from_short _ bit-exact)

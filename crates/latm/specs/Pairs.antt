@@ -1,5 +1,5 @@
 -- The length of other data as pairs of otherDataLenEsc and otherDataLenTmp (ISO/IEC 14496-3, StreamMuxConfig of version 0).
-use Rattle.std.specs.Prelude.{◌≡◌, ℕ, zero, suc, ◌+◌, ◌-◌, ◌*◌, ◌/◌, ◌%◌, ◌^◌, ◌<◌, ◌≤◌, Bool, true, false, List, [], ◌∷◌, ◌++◌, length, Result, Ok, Err, nat_lt, not, ◌||◌, if◌then◌else◌}
+use Rattle.std.specs.Prelude.{◌≡◌, ℕ, zero, suc, ◌+◌, ◌-◌, ◌*◌, ◌/◌, ◌%◌, ◌^◌, ◌<◌, ◌≤◌, Bool, true, List, [], ◌∷◌, ◌++◌, length, Result, Ok, Err, nat_lt, not, ◌||◌, if◌then◌else◌}
 use Rattle.bit_core.specs.declared.faults.Short.{Short}
 use Rattle.layout.specs.Text.{num}
 use Rattle.layout.specs.Reader.{Reader, left}

@@ -1,6 +1,6 @@
 -- Pairs are read exactly.
 use Rattle.std.proofs.Common.{◌≡◌, ℕ, zero, suc, ◌+◌, ◌-◌, ◌*◌, ◌/◌, ◌%◌, ◌^◌, ◌<◌, ◌≤◌, Bool, true, false, List, [], ◌∷◌, ◌++◌, length, Result, Ok, Err, refl, sym, ap, subst, ◌∙◌, append_assoc, arith, inl, inr}
-use Rattle.std.specs.Prelude.{◌⊎◌, nat_lt, not, ◌||◌}
+use Rattle.std.specs.Prelude.{◌⊎◌}
 use Rattle.std.proofs.lemmas.Bool.{cases_lt, le-ltb, lt-ltb}
 use Rattle.std.proofs.lemmas.List.{append-nil, length-append}
 use Rattle.bit_core.specs.declared.faults.Short.{Short}
@@ -9,9 +9,8 @@ use Rattle.layout.specs.Reader.{Reader, left, moved}
 use Rattle.layout.specs.Layout.{◌>>=◌, at_start, IsProperPrefix}
 use Rattle.layout.specs.Fields.{number, flag}
 use Rattle.layout.specs.Exact.{IsExact, IsOpen}
-use Rattle.layout.proofs.TextLemmas.{length-num}
 use Rattle.layout.proofs.Layouts.{bind_ok, bind_err, done, failed, ok_is, err_is, left_moved, moved_twice, both-exact, both-open, field-open}
-use Rattle.bit_core.specs.Plain.{bits, bit, short_at}
+use Rattle.bit_core.specs.Plain.{bits, short_at}
 use Rattle.bit_core.proofs.PlainFacts.{bits-exact, bit-exact}
 use Rattle.latm.specs.declared.pairs.Run.{Run}
 use Rattle.latm.specs.Pairs.{pair, more_text, run_text, IsRun, is_last, run_step, run_read, run}

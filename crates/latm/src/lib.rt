@@ -16,6 +16,7 @@ mod mux_element;
 mod other_length;
 mod pairs;
 mod reading;
+mod stream;
 #[cfg(test)]
 mod tests;
 mod writing;
@@ -25,3 +26,4 @@ pub use fault::{MuxFault, MuxField, WriteFault};
 pub use mux_config::MuxConfig;
 pub use mux_element::{MuxElement, Slots, read_element};
 pub use other_length::OtherLength;
+pub use stream::{MuxElements, Stream};

@@ -1,4 +1,4 @@
-use Rattle.std.proofs.Common.{arith, length}
+use Rattle.std.proofs.Common.{arith}
 use Rattle.latm.proofs.SlotWrites.{slot_over, slot_written}
 use Rattle.latm.proofs.element_writing.write_slot.Goals as goal
 

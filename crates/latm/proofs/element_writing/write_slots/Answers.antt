@@ -1,5 +1,5 @@
 use Rattle.std.proofs.lemmas.Result.{err_from_is_err_and}
-use Rattle.std.proofs.Common.{arith, ◌∙◌}
+use Rattle.std.proofs.Common.{◌∙◌}
 use Rattle.latm.proofs.SlotWrites.{over_in}
 use Rattle.latm.proofs.element_writing.write_slots.Goals as goal
 
