@@ -51,6 +51,13 @@ impl<T> Items<T> {
     {
         self.items.as_slice()
     }
+
+    /// The vector of the items.
+    pub fn into_vec(self) -> Vec<T>
+        ensures { result.items ≡ self }
+    {
+        self.items
+    }
 }
 
 impl<T: Drop> Items<T> {

@@ -1,0 +1,6 @@
+pub mod Pieces
+pub mod Runs
+pub mod FrameLists
+pub mod Counting
+pub mod Scripts
+pub mod Steps

@@ -1,0 +1,10 @@
+use Rattle.std.proofs.Common.{◌≡◌, rules, false, Bool, ◌∙◌}
+use Rattle.au_stream.proofs.Steps.{reads_marked}
+use Rattle.au_stream.proofs.reader.AuReader.next.Goals as goal
+
+pub returns-clause-reads : goal.returns-clause-reads
+returns-clause-reads g c = λ got given h.
+    let a = c.advance-result.ensures in
+    let going = rw (← c.self-2.view_is) at (a.going ∙ h.holds.going) in
+    let reads = rw (← c.self-2.view_is) at (a.reads got given h) in
+    reads_marked got given c.args.self.now _ c.is_err-self-inside.result _ _ c.advance-result.result reads going (search rules)

@@ -1,0 +1,57 @@
+-- What a reader does with one element.
+use Rattle.std.specs.Prelude.{◌≡◌, ◌≢◌, ℕ, ◌+◌, Bool, false, List, ◌∷◌, length, take, drop, Option, Some, None, is_some, Result, Ok, Err, IsTrue, ◌↔◌}
+use Rattle.layout.specs.Text.{bits_of}
+use Rattle.loas.specs.Framer.{past_frame}
+use Rattle.latm.specs.declared.fault.MuxFault.{MuxFault}
+use Rattle.latm.specs.declared.fault.MuxFault.TheVariants as mux
+use Rattle.latm.specs.declared.mux_config.MuxConfig.{MuxConfig}
+use Rattle.latm.specs.declared.mux_element.MuxElement.{MuxElement}
+use Rattle.latm.specs.MuxElement.{element, then_in_force}
+use Rattle.au_stream.specs.declared.event.Event.{Event}
+use Rattle.au_stream.specs.declared.fault.StreamFault.{StreamFault}
+use Rattle.au_stream.specs.declared.fault.StreamFault.TheVariants.{ReadFault, TooLarge, Loas, Mux, Memory}
+use Rattle.au_stream.specs.Elements.{IsElement}
+use Rattle.au_stream.specs.Reading.{Reading}
+
+-- an element's own configuration changes the UsacConfig that is in force before it
+abbrev pub Changes : Option MuxConfig → Option MuxConfig → Type 0
+Changes before None = ⊥
+Changes None (Some own) = Unit {0}
+Changes (Some before) (Some own) = before.asc.usac ≢ own.asc.usac
+
+-- the reader with the access units of an element still to be given
+abbrev pub with_element : MuxElement → Bool → Reading → Reading
+with_element e changed r = record r { in_force = then_in_force r.in_force e.config; pending = e.slots; opens = is_some e.config; changed = changed }
+
+abbrev pub past : ℕ → Reading → Reading
+past n r = record r { framer = past_frame n r.framer }
+
+-- why no frame is given where an element has a fault, or finds no memory
+abbrev pub refused_element : ℕ → MuxFault → StreamFault
+refused_element frame (mux.Memory e) = Memory e
+refused_element frame fault = Mux frame fault
+
+-- the element of the LOAS frame at the front was read
+pub record TookElement (n : ℕ) (old new : Reading) : Type 0 where
+  pub element : MuxElement
+  pub is : IsElement old.in_force element (take n (drop 3 old.framer.held))
+  pub changed : IsTrue new.changed ↔ Changes old.in_force element.config
+  pub held : new ≡ with_element element new.changed (past n old)
+
+abbrev pub TakesElement : ℕ → Reading → Reading → Result (Unit {0}) StreamFault → Type 0
+TakesElement n old new (Ok _) = TookElement n old new
+TakesElement n old new (Err (Mux frame fault)) =
+    (new ≡ old) × (frame ≡ old.count) × (let L = element old.in_force in L.Faults 0 fault (bits_of (take n (drop 3 old.framer.held))))
+TakesElement n old new (Err (Memory e)) = new ≡ old
+TakesElement n old new (Err ReadFault) = ⊥
+TakesElement n old new (Err TooLarge) = ⊥
+TakesElement n old new (Err (Loas fault)) = ⊥
+
+-- the first access unit was given
+pub record Gave (old new : Reading) (event : Event) : Type 0 where
+  pub rest : List (List ℕ)
+  pub pending : old.pending ≡ event.au ∷ rest
+  pub number : event.frame ≡ old.count
+  pub changed : event.changed ≡ old.changed
+  pub opens : event.opens ≡ old.opens
+  pub left : new ≡ record old { pending = rest; opens = false; changed = false; count = old.count + 1 }

@@ -1,0 +1,15 @@
+//! The access units of a source of LOAS frames (ISO/IEC 14496-3, AudioSyncStream and AudioMuxElement).
+//!
+//! An [`AuReader`] reads a source in pieces and gives its frames, each once, in order, with the configuration in force;
+//! [`read_stream`] reads all elements to the end. What they answer is the script of the source's bytes, whatever the sizes of
+//! its reads: the frames of the most elements that the first 268,435,456 bytes begin with, and why no more follow.
+#![tactic(auto)]
+
+mod event;
+mod fault;
+mod frame_reader;
+mod reader;
+
+pub use event::Event;
+pub use fault::StreamFault;
+pub use reader::AuReader;
