@@ -2,3 +2,6 @@ pub mod Parts
 pub mod SbrMps
 pub mod Elements
 pub mod Lines
+pub mod MuxLine
+pub mod Refusal
+pub mod Faults

@@ -42,6 +42,10 @@ abbrev pub extensions_from : ℕ → List ConfigExt → List (List ℕ)
 extensions_from i [] = []
 extensions_from i (v ∷ vs) = extension_line i v ∷ extensions_from (i + 1) vs
 
+-- the lines of a UsacConfig, in their order
+abbrev pub usac_lines : UsacConfig → List (List ℕ)
+usac_lines c = usac_line c ∷ (positions_lines c ++ (elements_from 0 c.elements ++ extensions_from 0 c.extensions))
+
 -- all lines, in their order
 abbrev pub lines_of : Asc → List (List ℕ)
-lines_of v = asc_line v ∷ (usac_line v.usac ∷ (positions_lines v.usac ++ (elements_from 0 v.usac.elements ++ extensions_from 0 v.usac.extensions)))
+lines_of v = asc_line v ∷ usac_lines v.usac

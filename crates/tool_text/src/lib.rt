@@ -1,14 +1,23 @@
-//! The lines that tell a configuration to a reader, each with its line feed: AudioSpecificConfig (ISO/IEC 14496-3), and the
-//! UsacConfig in it (ISO/IEC 23003-3) with its elements and extensions.
+//! The texts that tell a stream to a reader, each line with its line feed: StreamMuxConfig and AudioSpecificConfig (ISO/IEC
+//! 14496-3), the UsacConfig in it (ISO/IEC 23003-3) with its elements and extensions, and refusals.
 //!
-//! Numbers are decimal, truth values are 0 or 1, bytes are lower-case hex, and a dash stands for what is absent or empty.
+//! In the lines of a configuration numbers are decimal, truth values are 0 or 1, bytes are lower-case hex, and a dash stands for
+//! what is absent or empty. A refusal is a place and a reason; each fault of the crates below but want of memory is one.
 #![tactic(auto)]
 
 mod element_lines;
+mod faults;
 mod lines;
+mod mux_line;
 mod parts;
+mod refusal;
+mod refusal_text;
 mod setting_lines;
 #[cfg(test)]
 mod tests;
 
+pub use faults::{loas_refusal, mux_refusal};
 pub use lines::configuration_lines;
+pub use mux_line::mux_lines;
+pub use refusal::{Place, Reason, Refusal};
+pub use refusal_text::refusal_line;

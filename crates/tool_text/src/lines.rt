@@ -3,7 +3,7 @@ ghost use Rattle.std.specs.Prelude.{◌≡◌, ◌++◌, IfOk, OnOk};
 ghost use Rattle.std.specs.String.{string_bytes};
 ghost use Rattle.usac_cfg.specs.UsacConfig.{IsWellFormed as IsUsacWellFormed};
 ghost use Rattle.asc.specs.Asc.{IsWellFormed};
-ghost use Rattle.tool_text.specs.Lines.{explicit_of, asc_line, output_text, usac_line, positions_line, positions_lines, extension_line, extensions_from, lines_of};
+ghost use Rattle.tool_text.specs.Lines.{explicit_of, asc_line, output_text, usac_line, positions_line, positions_lines, extension_line, extensions_from, usac_lines, lines_of};
 
 use crate::element_lines::push_elements;
 use crate::parts::{hex_or_dash, joined, number_or_dash};
@@ -105,6 +105,38 @@ fn push_extensions(
     Ok(())
 }
 
+/// Adds the lines of a well formed UsacConfig.
+fn push_usac(
+    alloc: Global,
+    config: &UsacConfig,
+    lines: &mut Items<Octets>,
+) -> Result<(), AllocError>
+    requires { IsUsacWellFormed config.now }
+    ensures { OnOk result (lines.new ≡ lines.old ++ usac_lines config.now) }
+{
+    let line = usac_line(alloc, config)?;
+    lines.push(line)?;
+    push_positions(alloc, config, lines)?;
+    push_elements(alloc, config.elements.as_slice(), lines)?;
+    push_extensions(alloc, config.extensions.as_slice(), lines)?;
+    Ok(())
+}
+
+/// Adds the lines of a well formed configuration.
+pub fn push_configuration(
+    alloc: Global,
+    asc: &Asc,
+    lines: &mut Items<Octets>,
+) -> Result<(), AllocError>
+    requires { IsWellFormed asc.now }
+    ensures { OnOk result (lines.new ≡ lines.old ++ lines_of asc.now) }
+{
+    let line = asc_line(alloc, asc)?;
+    lines.push(line)?;
+    push_usac(alloc, &asc.usac, lines)?;
+    Ok(())
+}
+
 /// The lines of a well formed configuration, each with its line feed: the one of AudioSpecificConfig, the one of UsacConfig,
 /// the one of the channel positions where these are there, those of each element, and one for each extension.
 ///
@@ -122,12 +154,6 @@ pub fn configuration_lines(alloc: Global, asc: &Asc) -> Result<Items<Octets>, Al
     ensures { IfOk result (λ lines. lines ≡ lines_of asc.now) }
 {
     let mut lines = Items::new(alloc);
-    let first = asc_line(alloc, asc)?;
-    lines.push(first)?;
-    let second = usac_line(alloc, &asc.usac)?;
-    lines.push(second)?;
-    push_positions(alloc, &asc.usac, &mut lines)?;
-    push_elements(alloc, asc.usac.elements.as_slice(), &mut lines)?;
-    push_extensions(alloc, asc.usac.extensions.as_slice(), &mut lines)?;
+    push_configuration(alloc, asc, &mut lines)?;
     Ok(lines)
 }

@@ -2,13 +2,17 @@ ghost use Rattle.std.specs.Prelude.{◌≡◌};
 ghost use Rattle.usac_cfg.specs.UsacConfig.{IsWellFormed as IsUsacWellFormed};
 ghost use Rattle.asc.specs.Asc.{IsWellFormed};
 
-use crate::configuration_lines;
-use asc::Asc;
-use bit_core::{BitReader, Bits};
+use crate::{
+    Place, Reason, Refusal, configuration_lines, loas_refusal, mux_lines, mux_refusal, refusal_line,
+};
+use asc::{Asc, AscFault};
+use bit_core::{BitReader, Bits, Octets};
+use latm::{MuxConfig, MuxFault, MuxField};
+use loas::LoasFault;
 use std::alloc::Global;
 use std::process::Abort;
 use std::test::Fail;
-use usac_cfg::UsacConfig;
+use usac_cfg::{CfgFault, UsacConfig};
 
 /// A configuration, how many bits it has, and its lines behind that of AudioSpecificConfig.
 type Row = (&'static [u8], u64, &'static [&'static str]);
@@ -46,7 +50,25 @@ const ROWS: &[Row] = &[
     ),
 ];
 
-/// Compares the lines with a first one and those behind it.
+/// The lines of a configuration with a stream identifier, behind that of AudioSpecificConfig.
+const IDENTIFIED: &[&str] = &[
+    "usac rate=48000 frame=1024 channels=1 elements=2 extensions=1 id=1\n",
+    "element 0 ext type=3 default=- frag=0 config=-\n",
+    "element 1 single tw=0 nf=1\n",
+    "extension 0 type=7 bytes=0001\n",
+];
+
+/// Compares lines with a first one and those behind it.
+fn compare(rt: &impl Abort, lines: &[Octets], first: &str, more: &[&str]) {
+    assert_eq!(rt; lines.len(), more.len() + 1, "{first}");
+    assert_eq!(rt; lines[0].as_slice(), first.as_bytes(), "{first}");
+    for i in 0..more.len() {
+        let wanted = more[i];
+        assert_eq!(rt; lines[i + 1].as_slice(), wanted.as_bytes(), "{wanted}");
+    }
+}
+
+/// Compares the lines of a configuration with a first one and those behind it.
 fn check_lines(
     rt: &(impl Abort + AllocGlobal),
     asc: &Asc,
@@ -56,13 +78,7 @@ fn check_lines(
     requires { IsWellFormed asc.now }
 {
     let lines = configuration_lines(rt.alloc(), asc)?;
-    let lines = lines.as_slice();
-    assert_eq!(rt; lines.len(), more.len() + 1, "{first}");
-    assert_eq!(rt; lines[0].as_slice(), first.as_bytes(), "{first}");
-    for i in 0..more.len() {
-        let wanted = more[i];
-        assert_eq!(rt; lines[i + 1].as_slice(), wanted.as_bytes(), "{wanted}");
-    }
+    compare(rt, lines.as_slice(), first, more);
     Ok(())
 }
 
@@ -85,13 +101,12 @@ fn a_configuration_with_a_stream_identifier(rt: HostRuntime) -> Result<(), Fail>
     let bytes = b"\xF9\x46\x23\x21\x1C\xC0\x18\xE4\x00\x02";
     let mut reader = BitReader::within(bytes, 0, 79);
     let asc = Asc::read_counted(rt.alloc(), &mut reader)?;
-    let more = [
-        "usac rate=48000 frame=1024 channels=1 elements=2 extensions=1 id=1\n",
-        "element 0 ext type=3 default=- frag=0 config=-\n",
-        "element 1 single tw=0 nf=1\n",
-        "extension 0 type=7 bytes=0001\n",
-    ];
-    check_lines(&rt, &asc, "asc index=3 rate=- channels=1 tail=0\n", &more)
+    check_lines(
+        &rt,
+        &asc,
+        "asc index=3 rate=- channels=1 tail=0\n",
+        IDENTIFIED,
+    )
 }
 
 #[test]
@@ -106,4 +121,199 @@ fn configurations_with_settings_and_positions(rt: HostRuntime) -> Result<(), Fai
         check_lines(&rt, &asc, "asc index=15 rate=0 channels=2 tail=0\n", more)?;
     }
     Ok(())
+}
+
+/// StreamMuxConfigs of that configuration, how many bits they have, and their first lines.
+const MUXES: &[(&[u8], u64, &str)] = &[
+    // version 1, three slots, 300 bits of other data in two bytes, and a sum
+    (
+        b"\x8F\xF8\x40\x04\xFF\x94\x62\x32\x11\xCC\x01\x8E\x40\x00\x23\x22\x80\x96\x42\x80",
+        154,
+        "mux version=1 subframes=3 fullness=200 other=300 crc=0a\n",
+    ),
+    // the canonical one
+    (
+        b"\x40\x01\xF2\x8C\x46\x42\x39\x80\x31\xC8\x00\x04\x7F\x80",
+        107,
+        "mux version=0 subframes=1 fullness=255 other=- crc=-\n",
+    ),
+    // 64 slots, no bits of other data in one pair, and a sum
+    (
+        b"\x7F\x01\xF2\x8C\x46\x42\x39\x80\x31\xC8\x00\x04\x00\x40\x1F\x00",
+        124,
+        "mux version=0 subframes=64 fullness=0 other=0 crc=f0\n",
+    ),
+];
+
+#[test]
+fn muxes_of_both_versions(rt: HostRuntime) -> Result<(), Fail> {
+    for (bytes, bits, wanted) in MUXES {
+        assert!(rt; bytes.len() <= 20);
+        assert!(rt; *bits <= 8 * bytes.len() as u64);
+        let mut reader = BitReader::within(bytes, 0, *bits);
+        let mux = MuxConfig::read(rt.alloc(), &mut reader)?;
+        assert_eq!(rt; reader.at(), *bits);
+        let lines = mux_lines(rt.alloc(), &mux)?;
+        let Some((first, more)) = lines.as_slice().split_first() else {
+            panic!(rt; "no line");
+        };
+        assert_eq!(rt; first.as_slice(), wanted.as_bytes(), "{wanted}");
+        compare(
+            &rt,
+            more,
+            "asc index=3 rate=- channels=1 tail=0\n",
+            IDENTIFIED,
+        );
+    }
+    Ok(())
+}
+
+const BYTE: Place = Place::Byte(4096);
+
+const FRAME: Place = Place::Frame(7);
+
+const BIT: Place = Place::FrameBit {
+    frame: 12,
+    bit: 345,
+};
+
+/// A place, a reason, and the line of their refusal.
+const REFUSALS: &[(Place, Reason, &str)] = &[
+    (BYTE, Reason::SyncLost, "refused: byte 4096: sync lost\n"),
+    (BYTE, Reason::Truncated, "refused: byte 4096: truncated\n"),
+    (
+        BIT,
+        Reason::NoConfig,
+        "refused: frame 12 bit 345: no configuration\n",
+    ),
+    (
+        BIT,
+        Reason::OutOfProfile(MuxField::AudioMuxVersionA),
+        "refused: frame 12 bit 345: out of profile: audioMuxVersionA\n",
+    ),
+    (
+        BIT,
+        Reason::OutOfProfile(MuxField::AllStreamsSameTimeFraming),
+        "refused: frame 12 bit 345: out of profile: allStreamsSameTimeFraming\n",
+    ),
+    (
+        BIT,
+        Reason::OutOfProfile(MuxField::NumProgram),
+        "refused: frame 12 bit 345: out of profile: numProgram\n",
+    ),
+    (
+        BIT,
+        Reason::OutOfProfile(MuxField::NumLayer),
+        "refused: frame 12 bit 345: out of profile: numLayer\n",
+    ),
+    (
+        BIT,
+        Reason::OutOfProfile(MuxField::FrameLengthType),
+        "refused: frame 12 bit 345: out of profile: frameLengthType\n",
+    ),
+    (
+        BIT,
+        Reason::OutOfProfile(MuxField::OtherDataLenBits),
+        "refused: frame 12 bit 345: out of profile: otherDataLenBits\n",
+    ),
+    (
+        BIT,
+        Reason::MuxTooShort,
+        "refused: frame 12 bit 345: mux too short\n",
+    ),
+    (
+        BIT,
+        Reason::NotUsac { kind: 2 },
+        "refused: frame 12 bit 345: not USAC: type 2\n",
+    ),
+    (
+        BIT,
+        Reason::ConfigTooShort,
+        "refused: frame 12 bit 345: configuration too short\n",
+    ),
+    (
+        BIT,
+        Reason::TailTooLong,
+        "refused: frame 12 bit 345: configuration tail too long\n",
+    ),
+    (
+        BIT,
+        Reason::RateReserved,
+        "refused: frame 12 bit 345: reserved rate index\n",
+    ),
+    (
+        BIT,
+        Reason::RateZero,
+        "refused: frame 12 bit 345: rate zero\n",
+    ),
+    (
+        BIT,
+        Reason::FrameReserved,
+        "refused: frame 12 bit 345: reserved frame length index\n",
+    ),
+    (
+        BIT,
+        Reason::ChannelReserved,
+        "refused: frame 12 bit 345: reserved channel index\n",
+    ),
+    (
+        BIT,
+        Reason::NoChannels,
+        "refused: frame 12 bit 345: no channels\n",
+    ),
+    (
+        BIT,
+        Reason::TooManyChannels,
+        "refused: frame 12 bit 345: too many channels\n",
+    ),
+    (
+        BIT,
+        Reason::TooManyElements,
+        "refused: frame 12 bit 345: too many elements\n",
+    ),
+    (
+        BIT,
+        Reason::FrameTooShort,
+        "refused: frame 12 bit 345: frame too short\n",
+    ),
+    (
+        FRAME,
+        Reason::NotIndependent,
+        "refused: frame 7: not independent\n",
+    ),
+    (
+        FRAME,
+        Reason::FormNotBuilt,
+        "refused: frame 7: form not built\n",
+    ),
+];
+
+#[test]
+fn each_reason_has_its_line(rt: HostRuntime) -> Result<(), Fail> {
+    for (place, reason, wanted) in REFUSALS {
+        let refusal = Refusal {
+            place: *place,
+            reason: *reason,
+        };
+        let line = refusal_line(rt.alloc(), &refusal)?;
+        assert_eq!(rt; line.as_slice(), wanted.as_bytes(), "{wanted}");
+    }
+    Ok(())
+}
+
+#[test]
+fn faults_are_refusals(rt: HostRuntime) {
+    let lost = LoasFault::SyncLost { byte: 4096 };
+    let wanted = Refusal {
+        place: BYTE,
+        reason: Reason::SyncLost,
+    };
+    assert_eq!(rt; loas_refusal(&lost), Some(wanted));
+    let reserved = CfgFault::ChannelReserved { at: 345 };
+    let reserved = MuxFault::Asc(AscFault::Cfg(reserved));
+    let wanted = Refusal {
+        place: BIT,
+        reason: Reason::ChannelReserved,
+    };
+    assert_eq!(rt; mux_refusal(12, &reserved), Some(wanted));
 }

@@ -1,0 +1,48 @@
+-- The line of a refusal: its place and its reason.
+use Rattle.std.specs.Prelude.{ℕ, List, codes, decimal}
+use Rattle.latm.specs.declared.fault.MuxField.{MuxField}
+use Rattle.latm.specs.declared.fault.MuxField.TheVariants as fields
+use Rattle.tool_text.specs.declared.refusal.Place.{Place}
+use Rattle.tool_text.specs.declared.refusal.Place.TheVariants as places
+use Rattle.tool_text.specs.declared.refusal.Reason.{Reason}
+use Rattle.tool_text.specs.declared.refusal.Reason.TheVariants as reasons
+use Rattle.tool_text.specs.declared.refusal.Refusal.{Refusal}
+use Rattle.tool_text.specs.Parts.{◌&◌}
+
+abbrev pub place_text : Place → List ℕ
+place_text (places.Byte byte) = codes "byte " & decimal byte
+place_text (places.Frame frame) = codes "frame " & decimal frame
+place_text (places.FrameBit frame bit) = codes "frame " & decimal frame & codes " bit " & decimal bit
+
+-- the name of a field of StreamMuxConfig (ISO/IEC 14496-3)
+abbrev pub field_name : MuxField → List ℕ
+field_name fields.AudioMuxVersionA = codes "audioMuxVersionA"
+field_name fields.AllStreamsSameTimeFraming = codes "allStreamsSameTimeFraming"
+field_name fields.NumProgram = codes "numProgram"
+field_name fields.NumLayer = codes "numLayer"
+field_name fields.FrameLengthType = codes "frameLengthType"
+field_name fields.OtherDataLenBits = codes "otherDataLenBits"
+
+abbrev pub reason_text : Reason → List ℕ
+reason_text reasons.SyncLost = codes "sync lost"
+reason_text reasons.Truncated = codes "truncated"
+reason_text reasons.NoConfig = codes "no configuration"
+reason_text (reasons.OutOfProfile field) = codes "out of profile: " & field_name field
+reason_text reasons.MuxTooShort = codes "mux too short"
+reason_text (reasons.NotUsac kind) = codes "not USAC: type " & decimal kind
+reason_text reasons.ConfigTooShort = codes "configuration too short"
+reason_text reasons.TailTooLong = codes "configuration tail too long"
+reason_text reasons.RateReserved = codes "reserved rate index"
+reason_text reasons.RateZero = codes "rate zero"
+reason_text reasons.FrameReserved = codes "reserved frame length index"
+reason_text reasons.ChannelReserved = codes "reserved channel index"
+reason_text reasons.NoChannels = codes "no channels"
+reason_text reasons.TooManyChannels = codes "too many channels"
+reason_text reasons.TooManyElements = codes "too many elements"
+reason_text reasons.FrameTooShort = codes "frame too short"
+reason_text reasons.NotIndependent = codes "not independent"
+reason_text reasons.FormNotBuilt = codes "form not built"
+
+-- the whole line, with its line feed
+abbrev pub refusal_text : Refusal → List ℕ
+refusal_text r = codes "refused: " & place_text r.place & codes ": " & reason_text r.reason & codes "\n"

@@ -1,0 +1,61 @@
+use latm::MuxField;
+
+/// What a command refuses: the first place that it cannot take, and why. [`refusal_line`](crate::refusal_line) is its text.
+#[derive(Clone, Copy, Debug, PartialEq, Eq)]
+pub struct Refusal {
+    pub place: Place,
+    pub reason: Reason,
+}
+
+/// A place in a stream. Bytes, frames and bits are counted from 0.
+#[derive(Clone, Copy, Debug, PartialEq, Eq)]
+pub enum Place {
+    /// A byte of the stream.
+    Byte(u64),
+    /// A frame of the stream.
+    Frame(u64),
+    /// A bit at a frame: of the AudioMuxElement (ISO/IEC 14496-3) whose first access unit the frame is, or, where the frame
+    /// itself is too short, of its access unit.
+    FrameBit { frame: u64, bit: u64 },
+}
+
+/// Why it is refused.
+#[derive(Clone, Copy, Debug, PartialEq, Eq)]
+pub enum Reason {
+    /// A frame of the stream is due, and the syncword is not there.
+    SyncLost,
+    /// The stream ends within a frame.
+    Truncated,
+    /// `useSameStreamMux` is 1, and no configuration is in force.
+    NoConfig,
+    /// The field of StreamMuxConfig has a value that is not taken.
+    OutOfProfile(MuxField),
+    /// An element ends within a field of the mux.
+    MuxTooShort,
+    /// The audio object type is `kind`, and not 42.
+    NotUsac { kind: u32 },
+    /// An AudioSpecificConfig ends within a field.
+    ConfigTooShort,
+    /// More than 7 bits stand behind UsacConfig in an AudioSpecificConfig that is counted.
+    TailTooLong,
+    /// `usacSamplingFrequencyIndex` is 13, 14 or from 28 to 30.
+    RateReserved,
+    /// `usacSamplingFrequency` is 0.
+    RateZero,
+    /// `coreSbrFrameLengthIndex` is above 4.
+    FrameReserved,
+    /// `channelConfigurationIndex` is above 13.
+    ChannelReserved,
+    /// `numOutChannels` is 0.
+    NoChannels,
+    /// `numOutChannels` is above 64.
+    TooManyChannels,
+    /// `numElements` is above 64.
+    TooManyElements,
+    /// An access unit ends within its leading part.
+    FrameTooShort,
+    /// `usacIndependencyFlag` is 0 where it has to be 1.
+    NotIndependent,
+    /// The program does not take this form of frame yet.
+    FormNotBuilt,
+}

@@ -1,0 +1,77 @@
+// The line that tells a refusal.
+ghost use Rattle.std.specs.Prelude.{◌≡◌, IfOk};
+ghost use Rattle.std.specs.String.{string_bytes};
+ghost use Rattle.tool_text.specs.Refusal.{field_name, place_text, reason_text, refusal_text};
+
+use crate::refusal::{Place, Reason, Refusal};
+use bit_core::Octets;
+use latm::MuxField;
+use std::alloc::{AllocError, Global};
+
+fn place_text(alloc: Global, place: Place) -> Result<String, AllocError>
+    ensures { IfOk result (λ text. string_bytes text ≡ place_text place) }
+{
+    match place {
+        Place::Byte(byte) => format!(in alloc; "byte {byte}"),
+        Place::Frame(frame) => format!(in alloc; "frame {frame}"),
+        Place::FrameBit { frame, bit } => format!(in alloc; "frame {frame} bit {bit}"),
+    }
+}
+
+/// The standard's name of a field.
+fn field_name(field: MuxField) -> &'static str
+    ensures { result.now ≡ field_name field }
+{
+    match field {
+        MuxField::AudioMuxVersionA => "audioMuxVersionA",
+        MuxField::AllStreamsSameTimeFraming => "allStreamsSameTimeFraming",
+        MuxField::NumProgram => "numProgram",
+        MuxField::NumLayer => "numLayer",
+        MuxField::FrameLengthType => "frameLengthType",
+        MuxField::OtherDataLenBits => "otherDataLenBits",
+    }
+}
+
+fn reason_text(alloc: Global, reason: Reason) -> Result<String, AllocError>
+    ensures { IfOk result (λ text. string_bytes text ≡ reason_text reason) }
+{
+    match reason {
+        Reason::SyncLost => format!(in alloc; "sync lost"),
+        Reason::Truncated => format!(in alloc; "truncated"),
+        Reason::NoConfig => format!(in alloc; "no configuration"),
+        Reason::OutOfProfile(field) => {
+            let field = field_name(field);
+            format!(in alloc; "out of profile: {field}")
+        }
+        Reason::MuxTooShort => format!(in alloc; "mux too short"),
+        Reason::NotUsac { kind } => format!(in alloc; "not USAC: type {kind}"),
+        Reason::ConfigTooShort => format!(in alloc; "configuration too short"),
+        Reason::TailTooLong => format!(in alloc; "configuration tail too long"),
+        Reason::RateReserved => format!(in alloc; "reserved rate index"),
+        Reason::RateZero => format!(in alloc; "rate zero"),
+        Reason::FrameReserved => format!(in alloc; "reserved frame length index"),
+        Reason::ChannelReserved => format!(in alloc; "reserved channel index"),
+        Reason::NoChannels => format!(in alloc; "no channels"),
+        Reason::TooManyChannels => format!(in alloc; "too many channels"),
+        Reason::TooManyElements => format!(in alloc; "too many elements"),
+        Reason::FrameTooShort => format!(in alloc; "frame too short"),
+        Reason::NotIndependent => format!(in alloc; "not independent"),
+        Reason::FormNotBuilt => format!(in alloc; "form not built"),
+    }
+}
+
+/// The line of a refusal, with its line feed.
+///
+/// Errors: want of memory.
+///
+/// ```text
+/// refused: frame 2 bit 9: out of profile: numProgram
+/// ```
+pub fn refusal_line(alloc: Global, refusal: &Refusal) -> Result<Octets, AllocError>
+    ensures { IfOk result (λ text. text ≡ refusal_text refusal.now) }
+{
+    let place = place_text(alloc, refusal.place)?;
+    let reason = reason_text(alloc, refusal.reason)?;
+    let text = format!(in alloc; "refused: {place}: {reason}\n")?;
+    Ok(Octets::from_vec(text.into_bytes()))
+}
