@@ -17,6 +17,7 @@ mod reader;
 mod slices;
 #[cfg(test)]
 mod tests;
+mod words;
 mod writer;
 
 pub use bits::Bits;
