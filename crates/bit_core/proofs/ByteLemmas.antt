@@ -1,9 +1,8 @@
 -- Words as bytes.
-use Rattle.std.proofs.Common.{◌≡◌, ℕ, zero, suc, ◌+◌, ◌-◌, ◌*◌, ◌/◌, ◌%◌, ◌^◌, ◌<◌, ◌≤◌, Bool, false, List, [], ◌∷◌, ◌++◌, length, get_or, take, drop, refl, sym, ap, ◌∙◌, arith}
+use Rattle.std.proofs.Common.{◌≡◌, ℕ, zero, suc, ◌+◌, ◌-◌, ◌*◌, ◌/◌, ◌%◌, ◌^◌, ◌<◌, ◌≤◌, Bool, false, List, [], ◌∷◌, ◌++◌, length, get_or, take, refl, sym, ap, ◌∙◌, arith}
 use Rattle.std.specs.Int.{to_be_bytes, from_be_bytes, w64}
 use Rattle.std.proofs.lemmas.Nat.{from_be_bytes-to_be_bytes_8}
-use Rattle.std.proofs.lemmas.List.{append-nil, take_at, take-append-drop, take_all, length-take-le, length-drop, take-replicate, take_more}
-use Rattle.std.proofs.lemmas.List.Concat.{flat_map-append}
+use Rattle.std.proofs.lemmas.List.{take_all, take-replicate, take_more}
 use Rattle.layout.specs.Text.{num, bits_of, pad}
 use Rattle.bit_core.specs.Words.{ShowsFrom}
 use Rattle.bit_core.specs.Words.{zeros, spread, text_of, IsPacked}
@@ -11,7 +10,7 @@ use Rattle.layout.proofs.TextLemmas.{length-num, length-bits_of, bits_of-append,
 use Rattle.bit_core.proofs.PackLemmas.{take_past, length-text, length-spread, spread_push}
 use Rattle.bit_core.proofs.PeekLemmas.{eight, shown}
 
-small_byte : (w k : ℕ) → get_or (to_be_bytes w64 w) k 0 < 256
+pub small_byte : (w k : ℕ) → get_or (to_be_bytes w64 w) k 0 < 256
 small_byte w zero = omega arith
 small_byte w (suc zero) = omega arith
 small_byte w (suc (suc zero)) = omega arith

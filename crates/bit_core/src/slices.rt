@@ -85,9 +85,12 @@ pub fn bytes_at(alloc: Global, bytes: &[u8], at: u64, n: u64) -> Result<Vec<u8>,
     ensures same { IfOk result (λ copied. bits_of copied.items ≡ take (8 * n) (drop at (bits_of bytes.now))) }
 {
     let mut copied = Vec::with_capacity(alloc, n as usize)?;
-    for i in 0..n {
-        let byte = number_at(bytes, at + 8 * i, 8) as u8;
-        copied.push(byte)?;
+    let whole = n / 8;
+    for i in 0..whole {
+        let word = peek(bytes, at + 64 * i).to_be_bytes();
+        copied.extend_from_slice(&word)?;
     }
+    let last = peek(bytes, at + 64 * whole).to_be_bytes();
+    copied.extend_from_slice(&last[..(n % 8) as usize])?;
     Ok(copied)
 }

@@ -1,6 +1,5 @@
 use Rattle.std.proofs.Common.{ap, ◌∙◌, List, Bool, ℕ}
 use Rattle.layout.specs.Text.{pad, bits_of}
-use Rattle.bit_core.specs.Words.{text_of}
 use Rattle.bit_core.proofs.writer.BitWriter.finish.Goals as goal
 
 pub returns : goal.returns
