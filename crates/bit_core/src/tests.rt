@@ -115,7 +115,11 @@ fn writer_puts_words_off_a_byte(rt: HostRuntime) -> Result<(), Fail> {
     let mut reader = BitReader::new(&bytes);
     reader.skip(4)?;
     writer.put_bits(&reader.take_bits(alloc, 68)?)?;
-    let words = [0xF123_4567_89AB_CDEF, 0x0112_2234_5678_9ABC, 0xDEF0_1100_0000_0000];
+    let words = [
+        0xF123_4567_89AB_CDEF,
+        0x0112_2234_5678_9ABC,
+        0xDEF0_1100_0000_0000,
+    ];
     assert_eq!(rt; writer.words(), words.as_slice());
     writer.truncate(67);
     assert_eq!(rt; writer.words(), [0xF123_4567_89AB_CDEF, 0].as_slice());
