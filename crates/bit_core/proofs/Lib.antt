@@ -1,4 +1,10 @@
 pub mod Trims
+pub mod WordLemmas
+pub mod PackLemmas
+pub mod PeekLemmas
+pub mod CopyLemmas
+pub mod TypeLemmas
+pub mod ByteLemmas
 pub mod SliceLemmas
 pub mod PlainFacts
 pub mod Writing

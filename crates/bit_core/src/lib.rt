@@ -4,8 +4,8 @@
 //! A read takes exactly the next bits, or answers that bits are missing, with the first bit of the field, and leaves the
 //! reader where it was. A writer holds exactly the bits that were put into it, also after a call that is refused, and its
 //! bytes are these bits and the fewest zeros that fill the last byte. Contracts see a reader as a text of bits and a place
-//! in it, and a list or a writer as its entries; how bits are kept is private to this crate. `Items` is the list type of the
-//! crates above.
+//! in it, and a list or a writer as its entries. How bits are kept is private to this crate: packed in words of 64, the first
+//! bit highest. `words` gives them so. `Items` is the list type of the crates above.
 #![tactic(auto)]
 
 mod bits;
@@ -17,6 +17,7 @@ mod reader;
 mod slices;
 #[cfg(test)]
 mod tests;
+mod words;
 mod writer;
 
 pub use bits::Bits;

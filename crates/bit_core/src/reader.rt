@@ -10,7 +10,7 @@ ghost use Rattle.bit_core.specs.Faults.{is_memory};
 use crate::bits::Bits;
 use crate::faults::{ReadFault, Short};
 use crate::octets::Octets;
-use crate::slices::{bits_at, bytes_at, number_at};
+use crate::slices::{bytes_at, number_at};
 use std::alloc::Global;
 use std::marker::Model;
 
@@ -111,6 +111,7 @@ impl<'a> BitReader<'a> {
     /// Takes a number of at most 32 bits, most significant bit first.
     ///
     /// Errors: `Short` at the first of these bits, where fewer than n are left; nothing is taken.
+    #[inline]
     pub fn take(&mut self, n: u32) -> Result<u32, Short>
         requires { n ≤ 32 }
         ensures below { IfOk result (λ v. v < 2 ^ n) }
@@ -176,8 +177,8 @@ impl<'a> BitReader<'a> {
         if self.left() < n {
             return Err(ReadFault::Short(Short { at: self.at }));
         }
-        let bits = bits_at(alloc, self.bytes, self.at, n)?;
+        let bits = Bits::of_bytes(alloc, self.bytes, self.at, n)?;
         self.at += n;
-        Ok(Bits::from_vec(bits))
+        Ok(bits)
     }
 }

@@ -1,30 +1,70 @@
-// Numbers, bytes and bits at any place of a slice.
-ghost use Rattle.std.specs.Prelude.{◌≡◌, ◌+◌, ◌*◌, ◌^◌, ◌<◌, ◌≤◌, length, get_or, take, drop, false, IfOk, ℕ};
+// Numbers, words and bytes at any place of a slice.
+ghost use Rattle.std.specs.Prelude.{◌≡◌, ◌+◌, ◌*◌, ◌^◌, ◌<◌, ◌≤◌, length, get_or, take, drop, IfOk, ℕ};
 ghost use Rattle.layout.specs.Text.{num, bits_of};
+ghost use Rattle.bit_core.specs.Words.{ShowsFrom};
 
 use std::alloc::{AllocError, Global};
 
-/// The number that a few bytes spell, the first one highest.
-fn number_of(bytes: &[u8]) -> u64
-    requires { length bytes.now ≤ 5 }
-    ensures below { result < 2 ^ (8 * length bytes.now) }
-    ensures spelled { num (8 * length bytes.now) result ≡ bits_of bytes.now }
+/// The 64 bits from a byte near the end of a slice on, 0 where there is none.
+#[cold]
+fn last_bytes(bytes: &[u8], at: usize) -> u64
+    requires { at ≤ length bytes.now }
+    ensures { ShowsFrom 64 result (bits_of bytes.now) (8 * at) }
 {
-    let mut value: u64 = 0;
-    for byte in bytes {
-        value = value * 256 + u64::from(*byte);
+    let mut word: u64 = 0;
+    for i in 0..8usize {
+        let byte = if i < bytes.len() - at {
+            bytes[at + i]
+        } else {
+            0
+        };
+        word = (word << 8) | u64::from(byte);
     }
-    value
+    word
 }
 
-fn power_of_two(n: u32) -> u64
-    requires { n ≤ 32 }
-    ensures { result ≡ 2 ^ n }
+/// The 64 bits from a byte on, 0 where there is none.
+#[inline(always)]
+fn window(bytes: &[u8], at: usize) -> u64
+    requires { at ≤ length bytes.now }
+    ensures { ShowsFrom 64 result (bits_of bytes.now) (8 * at) }
 {
-    1 << n
+    if bytes.len() - at >= 8 {
+        u64::from_be_bytes([
+            bytes[at],
+            bytes[at + 1],
+            bytes[at + 2],
+            bytes[at + 3],
+            bytes[at + 4],
+            bytes[at + 5],
+            bytes[at + 6],
+            bytes[at + 7],
+        ])
+    } else {
+        last_bytes(bytes, at)
+    }
 }
 
-/// The number that n bits spell, by the bytes that they touch.
+/// The 64 bits from a bit on, 0 where there is none.
+#[inline(always)]
+pub fn peek(bytes: &[u8], at: u64) -> u64
+    requires small { 8 * length bytes.now ≤ 4611686018427387904 }
+    requires within { at ≤ 8 * length bytes.now }
+    ensures { ShowsFrom 64 result (bits_of bytes.now) at }
+{
+    let byte = (at / 8) as usize;
+    let skipped = (at % 8) as u32;
+    let word = window(bytes, byte);
+    let next = if bytes.len() - byte > 8 {
+        bytes[byte + 8]
+    } else {
+        0
+    };
+    (word << skipped) | (u64::from(next) >> (8 - skipped))
+}
+
+/// The number that n bits spell.
+#[inline(always)]
 pub fn number_at(bytes: &[u8], at: u64, n: u32) -> u32
     requires small { length bytes.now ≤ 16777216 }
     requires short { n ≤ 32 }
@@ -32,21 +72,8 @@ pub fn number_at(bytes: &[u8], at: u64, n: u32) -> u32
     ensures below { result < 2 ^ n }
     ensures spelled { num n result ≡ take n (drop at (bits_of bytes.now)) }
 {
-    let end = at + u64::from(n);
-    let first = (at / 8) as usize;
-    let last = end.div_ceil(8) as usize;
-    let value = number_of(&bytes[first..last]);
-    let behind = 8 * last as u64 - end;
-    ((value >> behind) % power_of_two(n)) as u32
-}
-
-/// The bit at a place.
-fn bit_at(bytes: &[u8], at: u64) -> bool
-    requires { at < 8 * length bytes.now }
-    ensures { result ≡ get_or (bits_of bytes.now) at false }
-{
-    let byte = bytes[(at / 8) as usize];
-    (byte >> (7 - at % 8)) & 1 == 1
+    let word = window(bytes, (at / 8) as usize) << (at % 8);
+    (word >> 1 >> (63 - n)) as u32
 }
 
 /// Copies n bytes that begin at any bit.
@@ -58,22 +85,12 @@ pub fn bytes_at(alloc: Global, bytes: &[u8], at: u64, n: u64) -> Result<Vec<u8>,
     ensures same { IfOk result (λ copied. bits_of copied.items ≡ take (8 * n) (drop at (bits_of bytes.now))) }
 {
     let mut copied = Vec::with_capacity(alloc, n as usize)?;
-    for i in 0..n {
-        let byte = number_at(bytes, at + 8 * i, 8) as u8;
-        copied.push(byte)?;
+    let whole = n / 8;
+    for i in 0..whole {
+        let word = peek(bytes, at + 64 * i).to_be_bytes();
+        copied.extend_from_slice(&word)?;
     }
-    Ok(copied)
-}
-
-/// Copies n bits.
-pub fn bits_at(alloc: Global, bytes: &[u8], at: u64, n: u64) -> Result<Vec<bool>, AllocError>
-    requires small { length bytes.now ≤ 16777216 }
-    requires within { at + n ≤ 8 * length bytes.now }
-    ensures { IfOk result (λ copied. copied.items ≡ take n (drop at (bits_of bytes.now))) }
-{
-    let mut copied = Vec::with_capacity(alloc, n as usize)?;
-    for i in 0..n {
-        copied.push(bit_at(bytes, at + i))?;
-    }
+    let last = peek(bytes, at + 64 * whole).to_be_bytes();
+    copied.extend_from_slice(&last[..(n % 8) as usize])?;
     Ok(copied)
 }

@@ -64,6 +64,32 @@ fn bits_are_trimmed(rt: HostRuntime) -> Result<(), Fail> {
 }
 
 #[test]
+fn bits_are_taken_across_words(rt: HostRuntime) -> Result<(), Fail> {
+    let bytes = [0xFFu8; 17];
+    let mut reader = BitReader::within(&bytes, 3, 133);
+    let bits = reader.take_bits(rt.alloc(), 130)?;
+    assert_eq!(rt; (bits.len(), reader.left()), (130, 0));
+    let words = [u64::MAX, u64::MAX, 0xC000_0000_0000_0000];
+    assert_eq!(rt; bits.words(), words.as_slice());
+    Ok(())
+}
+
+#[test]
+fn words_are_trimmed(rt: HostRuntime) -> Result<(), Fail> {
+    let alloc = rt.alloc();
+    let mut bits = bits_of(alloc, &[true])?;
+    for _ in 0..129 {
+        bits.push(false)?;
+    }
+    assert_eq!(rt; (bits.len(), bits.words().len()), (130, 3));
+    bits.trim();
+    assert_eq!(rt; bits.len(), 1);
+    assert!(rt; bits.same(&bits_of(alloc, &[true])?));
+    assert_eq!(rt; bits.words(), [0x8000_0000_0000_0000].as_slice());
+    Ok(())
+}
+
+#[test]
 fn octets_are_listed(rt: HostRuntime) -> Result<(), Fail> {
     let alloc = rt.alloc();
     let mut pushed = Octets::new(alloc);
@@ -76,6 +102,31 @@ fn octets_are_listed(rt: HostRuntime) -> Result<(), Fail> {
         assert_eq!(rt; octets.len(), 2);
         assert_eq!(rt; (octets.get(1), octets.get(2)), (Some(&2), None));
     }
+    Ok(())
+}
+
+#[test]
+fn writer_puts_words_off_a_byte(rt: HostRuntime) -> Result<(), Fail> {
+    let alloc = rt.alloc();
+    let bytes = [0x12, 0x34, 0x56, 0x78, 0x9A, 0xBC, 0xDE, 0xF0, 0x11, 0x22];
+    let mut writer = BitWriter::new(alloc);
+    writer.put(0xF, 4)?;
+    writer.put_bytes(&bytes)?;
+    let mut reader = BitReader::new(&bytes);
+    reader.skip(4)?;
+    writer.put_bits(&reader.take_bits(alloc, 68)?)?;
+    let words = [
+        0xF123_4567_89AB_CDEF,
+        0x0112_2234_5678_9ABC,
+        0xDEF0_1100_0000_0000,
+    ];
+    assert_eq!(rt; writer.words(), words.as_slice());
+    writer.truncate(67);
+    assert_eq!(rt; writer.words(), [0xF123_4567_89AB_CDEF, 0].as_slice());
+    writer.put_flag(true)?;
+    let octets = writer.finish()?;
+    let wanted = [0xF1, 0x23, 0x45, 0x67, 0x89, 0xAB, 0xCD, 0xEF, 0x10];
+    assert_eq!(rt; octets.as_slice(), wanted.as_slice());
     Ok(())
 }
 

@@ -1,14 +1,17 @@
-ghost use Rattle.std.specs.Prelude.{◌≡◌, ◌%◌, ◌^◌, ◌<◌, ◌≤◌, ◌++◌, ◌∷◌, [], length, take, IfOk, OnErr, OnOk};
-ghost use Rattle.layout.specs.Text.{num, bits_of, pad};
+ghost use Rattle.std.specs.Prelude.{◌≡◌, ◌+◌, ◌*◌, ◌/◌, ◌^◌, ◌<◌, ◌≤◌, ◌++◌, ◌∷◌, [], ℕ, length, take, drop, slice_index, IfOk, OnErr, OnOk};
+ghost use Rattle.layout.specs.Text.{num, bits_of, pad, value_after};
+ghost use Rattle.bit_core.specs.Words.{zeros};
 
 use crate::bits::Bits;
 use crate::octets::Octets;
+use crate::words::{MOST_BITS, cut_words, in_range, push_from, push_word, push_words, whole_bytes};
 use std::alloc::{AllocError, Global};
 use std::marker::Model;
 
 /// Holds the bits that were put into it, the first one first, and makes bytes of them.
 ///
-/// The one error of each call is want of memory. A refused put leaves the writer as it was.
+/// The one error of each call is want of memory, or of room for more than 2^62 bits. A refused put leaves the writer as it
+/// was.
 ///
 /// ```text
 /// let mut writer = BitWriter::new(alloc);
@@ -18,64 +21,19 @@ use std::marker::Model;
 /// ```
 #[derive(Drop)]
 pub struct BitWriter {
-    bits: Vec<bool>,
+    words: Vec<u64>,
+    len: u64,
 }
 
 impl Model for BitWriter {
-    ghost use Rattle.std.specs.Prelude.{List, Bool};
+    ghost use Rattle.std.specs.Prelude.{List, Bool, ◌≤◌};
+    ghost use Rattle.bit_core.specs.Words.{text_of, IsPacked};
 
     ghost Value = { List Bool };
 
-    ghost view = { λ w. w.bits.items };
-}
+    ghost view = { λ w. text_of w.len w.words.items };
 
-/// Adds a number of n bits. A call that is refused may leave some of them behind the others.
-fn push_number(bits: &mut Vec<bool>, value: u32, n: u32) -> Result<(), AllocError>
-    requires short { n ≤ 32 }
-    requires below { value < 2 ^ n }
-    ensures ok { OnOk result (bits.new.items ≡ bits.old.items ++ num n value) }
-    ensures kept { take (length bits.old.items) bits.new.items ≡ bits.old.items }
-{
-    for i in 0..n {
-        bits.push((value >> (n - 1 - i)) & 1 == 1)?;
-    }
-    Ok(())
-}
-
-/// Adds the bits of bytes. A call that is refused may leave some of them behind the others.
-fn push_bytes(bits: &mut Vec<bool>, bytes: &[u8]) -> Result<(), AllocError>
-    ensures ok { OnOk result (bits.new.items ≡ bits.old.items ++ bits_of bytes.now) }
-    ensures kept { take (length bits.old.items) bits.new.items ≡ bits.old.items }
-{
-    for byte in bytes {
-        push_number(bits, u32::from(*byte), 8)?;
-    }
-    Ok(())
-}
-
-/// The byte that eight bits spell.
-fn byte_of(bits: &[bool]) -> u8
-    requires { length bits.now ≡ 8 }
-    ensures { num 8 result ≡ bits.now }
-{
-    let mut byte: u8 = 0;
-    for bit in bits {
-        byte = byte * 2 + u8::from(*bit);
-    }
-    byte
-}
-
-/// The bytes that bits spell, eight by eight.
-fn packed(alloc: Global, bits: &[bool]) -> Result<Vec<u8>, AllocError>
-    requires { length bits.now % 8 ≡ 0 }
-    ensures { IfOk result (λ bytes. bits_of bytes.items ≡ bits.now) }
-{
-    let mut bytes = Vec::with_capacity(alloc, bits.len() / 8)?;
-    for i in 0..bits.len() / 8 {
-        let byte = byte_of(&bits[8 * i..8 * i + 8]);
-        bytes.push(byte)?;
-    }
-    Ok(bytes)
+    ghost invariant = { λ w. IsPacked w.words.items w.len × (w.len ≤ 4611686018427387904) };
 }
 
 impl BitWriter {
@@ -84,7 +42,8 @@ impl BitWriter {
         ensures { result ≡ [] }
     {
         BitWriter {
-            bits: Vec::new(alloc),
+            words: Vec::new(alloc),
+            len: 0,
         }
     }
 
@@ -92,7 +51,15 @@ impl BitWriter {
     pub fn len(&self) -> u64
         ensures { result ≡ length self.now }
     {
-        self.bits.len() as u64
+        self.len
+    }
+
+    /// The bits in words of 64, the first bit highest; the bits of the last word that are not used are 0.
+    pub fn words(&self) -> &[u64]
+        ensures count { length result.now ≡ (length self.now + 63) / 64 }
+        ensures each { (i : ℕ) → i < length result.now → slice_index result.now i ≡ value_after 0 (take 64 (drop (64 * i) self.now ++ zeros 64)) }
+    {
+        in_range(&self.words)
     }
 
     /// Cuts all but the first bits, `len` of them. A write of several fields that is refused goes back with it.
@@ -100,58 +67,78 @@ impl BitWriter {
         requires { len ≤ length self.old }
         ensures { self.new ≡ take len self.old }
     {
-        self.bits.truncate(len as usize);
+        cut_words(&mut self.words, len);
+        self.len = len;
     }
 
     /// Puts one bit: 1 for true.
     ///
-    /// Errors: want of memory; nothing is put.
+    /// Errors: want of memory, or of room for more than 2^62 bits; nothing is put.
+    #[inline]
     pub fn put_flag(&mut self, bit: bool) -> Result<(), AllocError>
         ensures ok { OnOk result (self.new ≡ self.old ++ bit ∷ []) }
         ensures err { OnErr result (self.new ≡ self.old) }
     {
-        self.bits.push(bit)?;
-        Ok(())
+        self.put(u32::from(bit), 1)
     }
 
     /// Puts a number of at most 32 bits, most significant bit first.
     ///
-    /// Errors: want of memory; nothing is put.
+    /// Errors: want of memory, or of room for more than 2^62 bits; nothing is put.
+    #[inline]
     pub fn put(&mut self, value: u32, n: u32) -> Result<(), AllocError>
         requires short { n ≤ 32 }
         requires below { value < 2 ^ n }
         ensures ok { OnOk result (self.new ≡ self.old ++ num n value) }
         ensures err { OnErr result (self.new ≡ self.old) }
     {
-        let start = self.bits.len();
-        let result = push_number(&mut self.bits, value, n);
-        if result.is_err() {
-            self.bits.truncate(start);
+        if n == 0 {
+            return Ok(());
         }
-        result
+        if self.len > MOST_BITS - u64::from(n) {
+            return Err(AllocError);
+        }
+        push_word(&mut self.words, self.len, u64::from(value) << (64 - n), n)?;
+        self.len += u64::from(n);
+        Ok(())
     }
 
     /// Puts bits as they are.
     ///
-    /// Errors: want of memory; nothing is put.
+    /// Errors: want of memory, or of room for more than 2^62 bits; nothing is put.
     pub fn put_bits(&mut self, bits: &Bits) -> Result<(), AllocError>
         ensures ok { OnOk result (self.new ≡ self.old ++ bits.now) }
         ensures err { OnErr result (self.new ≡ self.old) }
     {
-        self.bits.extend_from_slice(bits.as_slice())
+        let n = bits.len();
+        if n > MOST_BITS - self.len {
+            return Err(AllocError);
+        }
+        let result = push_words(&mut self.words, self.len, bits.packed(), n);
+        if result.is_ok() {
+            self.len += n;
+        } else {
+            cut_words(&mut self.words, self.len);
+        }
+        result
     }
 
     /// Puts bytes, the most significant bit of each first. They may begin at any bit.
     ///
-    /// Errors: want of memory; nothing is put.
+    /// Errors: want of memory, or of room for more than 2^62 bits; nothing is put.
     pub fn put_bytes(&mut self, bytes: &[u8]) -> Result<(), AllocError>
         ensures ok { OnOk result (self.new ≡ self.old ++ bits_of bytes.now) }
         ensures err { OnErr result (self.new ≡ self.old) }
     {
-        let start = self.bits.len();
-        let result = push_bytes(&mut self.bits, bytes);
-        if result.is_err() {
-            self.bits.truncate(start);
+        if bytes.len() as u64 > (MOST_BITS - self.len) / 8 {
+            return Err(AllocError);
+        }
+        let n = 8 * bytes.len() as u64;
+        let result = push_from(&mut self.words, self.len, bytes, 0, n);
+        if result.is_ok() {
+            self.len += n;
+        } else {
+            cut_words(&mut self.words, self.len);
         }
         result
     }
@@ -162,10 +149,8 @@ impl BitWriter {
     pub fn finish(self) -> Result<Octets, AllocError>
         ensures { IfOk result (λ octets. bits_of octets ≡ pad self) }
     {
-        let mut bits = self.bits;
-        let alloc = *bits.allocator();
-        bits.resize(8 * bits.len().div_ceil(8), false)?;
-        let bytes = packed(alloc, &bits)?;
+        let alloc = *self.words.allocator();
+        let bytes = whole_bytes(alloc, &self.words, self.len)?;
         Ok(Octets::from_vec(bytes))
     }
 }

@@ -1,4 +1,4 @@
-use Rattle.std.proofs.Common.{◌≡◌, ◌≤◌, ◌<◌, ◌+◌, arith, refl, ap, ◌∙◌, List, length, Bool, take, drop}
+use Rattle.std.proofs.Common.{◌≡◌, ◌≤◌, ◌<◌, ◌+◌, arith, refl, ap, List, length, Bool, take, drop}
 use Rattle.std.proofs.lemmas.List.{length-take, length-drop}
 use Rattle.layout.specs.Text.{bits_of}
 use Rattle.layout.specs.Reader.{left}
@@ -24,8 +24,8 @@ returns-then-left-n-clause-reads c =
 pub returns-clause-exact : goal.returns-clause-exact
 returns-clause-exact c =
     let i = c.self.inside in
-    let text = c.from_vec.result in
-    let same : text ≡ take c.args.n (drop i.at (bits_of i.bytes.now)) = c.from_vec.ensures ∙ c.in_ok-bits.ensures in
+    let text = c.in_ok-bits.bits in
+    let same : text ≡ take c.args.n (drop i.at (bits_of i.bytes.now)) = c.in_ok-bits.ensures in
     let within : i.at + c.args.n ≤ i.end = omega (arith, length-left i.bytes.now i.at i.end c.self.invariant.1, rw (← c.self.view_is) at c.left.ensures, c.if-left-n.false) in
     let many : length text ≡ c.args.n = omega (arith, ap (λ (t : List Bool). length t) same, length-take c.args.n (drop i.at (bits_of i.bytes.now)), length-drop i.at (bits_of i.bytes.now), length-bits_of i.bytes.now, c.self.invariant.1) in
     rw (← c.self.view_is) (gives_wrapped is_memory (λ s. faults.Short s) (bit_run c.args.n) _ _ text
