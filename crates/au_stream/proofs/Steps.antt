@@ -8,7 +8,7 @@ use Rattle.layout.specs.Text.{bits_of}
 use Rattle.loas.specs.Framing.{framed, IsFrameBody, IsPartial, HasWrongSync, BeginsWithFrame}
 use Rattle.loas.specs.Framer.{Framer, grown, pushed, past_frame}
 use Rattle.loas.specs.declared.fault.LoasFault.TheVariants as loas
-use Rattle.loas.proofs.Given.{begins-fits}
+use Rattle.loas.proofs.Given.{begins-fits, begins-length}
 use Rattle.latm.specs.declared.fault.MuxFault.{MuxFault}
 use Rattle.latm.specs.declared.fault.MuxFault.TheVariants as mux
 use Rattle.latm.specs.Faults.{is_memory}
@@ -22,10 +22,10 @@ use Rattle.au_stream.specs.Elements.{IsElement, Carries, in_force_behind}
 use Rattle.au_stream.specs.Frames.{Frame, config_of, frames_under, frames_from, last_of, IsChange}
 use Rattle.au_stream.specs.Script.{most_bytes, Mark, End, SyncLost, BadElement, Truncated, HasFrames, IsScript, IsOpen}
 use Rattle.au_stream.specs.Reading.{Reading, pending_frames, KnowsChange, Holds, HasRead}
-use Rattle.au_stream.specs.Giving.{Changes, with_element, past, refused_element, TookElement, TakesElement, Gave}
+use Rattle.au_stream.specs.Giving.{Changes, with_element, past, refused_element, TookElement, TakesElement, Gave, weight}
 use Rattle.au_stream.specs.Taking.{Seen, Takes, IsNeeded}
 use Rattle.au_stream.specs.Events.{IsEvent, Answers, RefusesAt, GivenBy, Reads}
-use Rattle.au_stream.proofs.Counting.{some_in_force}
+use Rattle.au_stream.proofs.Counting.{some_in_force, slots_fit}
 use Rattle.au_stream.proofs.FrameLists.{frames-push, last-push}
 use Rattle.au_stream.proofs.Runs.{carries_more, carries_push, in_force-push}
 use Rattle.au_stream.proofs.Scripts.{script_end, script_truncated, script_lost, script_bad, script_large, script_open, frames_begin}
@@ -104,23 +104,25 @@ took got given n r new h none b t =
     let held_is : new.framer.held ≡ behind = ap (λ (x : Reading). x.framer.held) t.held in
     let passed_is : new.framer.passed ≡ r.framer.passed + (3 + n) = ap (λ (x : Reading). x.framer.passed) t.held in
     let new_frames : frames_under (then_in_force (in_force_behind None s.elements) e.config) (is_some e.config) e.slots ≡ pending_frames new =
-        ap (λ (m : Option MuxConfig). frames_under (then_in_force m e.config) (is_some e.config) e.slots) (sym s.in_force)
-        ∙ ap (λ (m : Option MuxConfig). frames_under m (is_some e.config) e.slots) (sym force_is)
-        ∙ ap (λ (o : Bool). frames_under new.in_force o e.slots) (sym opens_is)
-        ∙ ap (λ (x : List (List ℕ)). frames_under new.in_force new.opens x) (sym pending_is) in
-    let old_frames : frames_from None s.elements ≡ given = s.frames ∙ ap (λ (x : List Frame). given ++ x) (no_pending r.in_force r.opens r.pending none) ∙ append-nil given in
-    (record {
-      elements = es;
-      carried = subst (λ (x : List ℕ). Carries None got es x) (sym held_is) carried;
-      in_force = force_is ∙ ap (λ (m : Option MuxConfig). then_in_force m e.config) s.in_force ∙ sym (in_force-push None s.elements e);
-      some = λ never. absurd (let x : None ≡ Some there.0 = sym never ∙ force_is ∙ there.1 in cc);
-      frames = frames-push None s.elements e ∙ ap (λ (x : List Frame). x ++ frames_under (then_in_force (in_force_behind None s.elements) e.config) (is_some e.config) e.slots) old_frames ∙ ap (λ (x : List Frame). given ++ x) new_frames;
-      change = change_known r.in_force e.config new.in_force there.0 new.opens (last_of given) new.pending new.changed force_is there.1 h.last t.changed;
-      counted = ap (λ (x : Reading). x.count) t.held ∙ s.counted;
-      pushed = omega (arith, passed_is, ap (λ (x : List ℕ). length x) held_is, length-drop (3 + n) r.framer.held, b.long, s.pushed);
-      few = s.few;
-      going = ap (λ (x : Reading). x.failed) t.held ∙ s.going;
-    }, omega (arith, ap (λ (x : List (List ℕ)). length x) pending_is, there.2))
+    ap (λ (m : Option MuxConfig). frames_under (then_in_force m e.config) (is_some e.config) e.slots) (sym s.in_force)
+    ∙ ap (λ (m : Option MuxConfig). frames_under m (is_some e.config) e.slots) (sym force_is)
+    ∙ ap (λ (o : Bool). frames_under new.in_force o e.slots) (sym opens_is)
+    ∙ ap (λ (x : List (List ℕ)). frames_under new.in_force new.opens x) (sym pending_is) in
+    let old_frames : frames_from None s.elements ≡ given = s.frames ∙ ap (λ (x : List Frame). given ++ x) (no_pending r.in_force r.opens r.pending none) ∙ append-nil given in (
+      record {
+        elements = es;
+        carried = subst (λ (x : List ℕ). Carries None got es x) (sym held_is) carried;
+        in_force = force_is ∙ ap (λ (m : Option MuxConfig). then_in_force m e.config) s.in_force ∙ sym (in_force-push None s.elements e);
+        some = λ never. absurd (let x : None ≡ Some there.0 = sym never ∙ force_is ∙ there.1 in cc);
+        frames = frames-push None s.elements e ∙ ap (λ (x : List Frame). x ++ frames_under (then_in_force (in_force_behind None s.elements) e.config) (is_some e.config) e.slots) old_frames ∙ ap (λ (x : List Frame). given ++ x) new_frames;
+        change = change_known r.in_force e.config new.in_force there.0 new.opens (last_of given) new.pending new.changed force_is there.1 h.last t.changed;
+        counted = ap (λ (x : Reading). x.count) t.held ∙ s.counted;
+        pushed = omega (arith, passed_is, ap (λ (x : List ℕ). length x) held_is, length-drop (3 + n) r.framer.held, b.long, s.pushed);
+        few = s.few;
+        going = ap (λ (x : Reading). x.failed) t.held ∙ s.going;
+      },
+      omega (arith, ap (λ (x : List (List ℕ)). length x) pending_is, there.2),
+    )
 
 -- ---- an access unit
 
@@ -144,12 +146,12 @@ gives got given r new event h g = go r.in_force refl
     go (Some m) e =
         let f : Frame = record { mux = m; opens = r.opens; au = event.au } in
         let first : pending_frames r ≡ f ∷ frames_under (Some m) false g.rest =
-            ap (λ (x : Option MuxConfig). frames_under x r.opens r.pending) e ∙ ap (λ (x : List (List ℕ)). frames_under (Some m) r.opens x) g.pending in
+        ap (λ (x : Option MuxConfig). frames_under x r.opens r.pending) e ∙ ap (λ (x : List (List ℕ)). frames_under (Some m) r.opens x) g.pending in
         let force_is : new.in_force ≡ Some m = ap (λ (x : Reading). x.in_force) g.left ∙ e in
         let left_is : pending_frames new ≡ frames_under (Some m) false g.rest =
-            ap (λ (x : Option MuxConfig). frames_under x new.opens new.pending) force_is
-            ∙ ap (λ (o : Bool). frames_under (Some m) o new.pending) (ap (λ (x : Reading). x.opens) g.left)
-            ∙ ap (λ (x : List (List ℕ)). frames_under (Some m) false x) (ap (λ (x : Reading). x.pending) g.left) in
+        ap (λ (x : Option MuxConfig). frames_under x new.opens new.pending) force_is
+        ∙ ap (λ (o : Bool). frames_under (Some m) o new.pending) (ap (λ (x : Reading). x.opens) g.left)
+        ∙ ap (λ (x : List (List ℕ)). frames_under (Some m) false x) (ap (λ (x : Reading). x.pending) g.left) in
         let changed_is : new.changed ≡ false = ap (λ (x : Reading). x.changed) g.left in
         let all : frames_from None h.elements ≡ given ++ f ∷ frames_under (Some m) false g.rest = h.frames ∙ ap (λ (x : List Frame). given ++ x) first in
         record {
@@ -327,7 +329,7 @@ reads_refused got given r new framer before now TooLarge h none t limit =
       at_end = λ never. absurd (let x : false ≡ true = never in cc);
       answers = λ rest e.
           let parts : (got ++ a.0) ++ (a.1 ∷ rest) ≡ (got ++ t.got) ++ rest =
-              sym (append_assoc (got ++ a.0) (a.1 ∷ []) rest) ∙ ap (λ (x : List ℕ). x ++ rest) (append_assoc got a.0 (a.1 ∷ []) ∙ ap (λ (x : List ℕ). got ++ x) (sym a.2)) in
+          sym (append_assoc (got ++ a.0) (a.1 ∷ []) rest) ∙ ap (λ (x : List ℕ). x ++ rest) (append_assoc got a.0 (a.1 ∷ []) ∙ ap (λ (x : List ℕ). got ++ x) (sym a.2)) in
           subst (λ (x : List ℕ). IsScript x given Rattle.au_stream.specs.Script.TooLarge) parts
           (subst (λ (x : List Frame). IsScript ((got ++ a.0) ++ (a.1 ∷ rest)) x Rattle.au_stream.specs.Script.TooLarge) all
           (script_large (got ++ a.0) (a.1 ∷ rest) s.elements framer.held full s.carried a.4 (omega arith)));
@@ -379,7 +381,7 @@ reads_refused got given r new framer before now (Memory error) h none t limit =
       at_end = λ never. absurd (let x : false ≡ true = never in cc);
       answers = λ rest e.
           let parts : (got ++ a.0) ++ (a.1 ++ rest) ≡ (got ++ t.got) ++ rest =
-              sym (append_assoc (got ++ a.0) a.1 rest) ∙ ap (λ (x : List ℕ). x ++ rest) (append_assoc got a.0 a.1 ∙ ap (λ (x : List ℕ). got ++ x) (sym a.2)) in
+          sym (append_assoc (got ++ a.0) a.1 rest) ∙ ap (λ (x : List ℕ). x ++ rest) (append_assoc got a.0 a.1 ∙ ap (λ (x : List ℕ). got ++ x) (sym a.2)) in
           let f = frames_begin (got ++ a.0) (a.1 ++ rest) s.elements framer.held s.few s.carried in
           (f.0, subst (λ (x : List ℕ). HasFrames x (given ++ f.0)) parts (subst (λ (x : List Frame). HasFrames ((got ++ a.0) ++ (a.1 ++ rest)) (x ++ f.0)) all f.1));
       leaves = tt;
@@ -425,3 +427,30 @@ reads_marked got given r mid failed before now result p going e = record {
     left : (result : Result (Option Event) StreamFault) → (IsTrue failed ↔ IsErr result) → GivenBy result (got ++ p.more) given mid → GivenBy result (got ++ p.more) given (record mid { failed = failed })
     left (Ok x) e g = subst (λ (q : Reading). GivenBy (Ok x) (got ++ p.more) given q) (same (known failed (λ t. let never : false ≡ true = e.0 t in cc))) g
     left (Err fault) e g = tt
+
+-- ---- what is left
+
+pub falls_pending : (r new : Reading) (event : Event) → Gave r new event → weight new < weight r
+falls_pending r new event g =
+    omega (arith, ap (λ (x : Reading). weight x) g.left, ap (λ (x : List (List ℕ)). length x) g.pending)
+
+pub falls_next : (r mid new : Reading) (framer : Framer) (before now : Seen) (n : ℕ) (event : Event) → r.pending ≡ [] → Takes most_bytes r.framer framer before now (Ok (Some n)) → pushed framer ≤ most_bytes
+    → TookElement n (record r { framer = framer }) mid → Gave mid new event → weight new < weight r
+falls_next r mid new framer before now n event none t limit took_is g =
+    let body = take n (drop 3 framer.held) in
+    let few = slots_fit r.in_force took_is.element body took_is.is in
+    let long : length body ≡ n = begins-length n framer.held t.answered.1 in
+    let grew = t.answered.0 in
+    omega (
+      arith,
+      falls_pending mid new event g,
+      ap (λ (x : Reading). weight x) took_is.held,
+      few,
+      long,
+      length-drop (3 + n) framer.held,
+      t.answered.1.long,
+      limit,
+      ap (λ (f : Framer). f.passed) grew,
+      ap (λ (f : Framer). length f.held) grew,
+      length-append r.framer.held t.got,
+    )

@@ -1,7 +1,7 @@
 -- What a reader does with one element.
-use Rattle.std.specs.Prelude.{◌≡◌, ◌≢◌, ℕ, ◌+◌, Bool, false, List, ◌∷◌, length, take, drop, Option, Some, None, is_some, Result, Ok, Err, IsTrue, ◌↔◌}
+use Rattle.std.specs.Prelude.{◌≡◌, ◌≢◌, ℕ, ◌+◌, ◌-◌, ◌<◌, Bool, false, List, ◌∷◌, length, take, drop, Option, Some, None, is_some, Result, Ok, Err, IsTrue, ◌↔◌}
 use Rattle.layout.specs.Text.{bits_of}
-use Rattle.loas.specs.Framer.{past_frame}
+use Rattle.loas.specs.Framer.{past_frame, pushed}
 use Rattle.latm.specs.declared.fault.MuxFault.{MuxFault}
 use Rattle.latm.specs.declared.fault.MuxFault.TheVariants as mux
 use Rattle.latm.specs.declared.mux_config.MuxConfig.{MuxConfig}
@@ -11,6 +11,7 @@ use Rattle.au_stream.specs.declared.event.Event.{Event}
 use Rattle.au_stream.specs.declared.fault.StreamFault.{StreamFault}
 use Rattle.au_stream.specs.declared.fault.StreamFault.TheVariants.{ReadFault, TooLarge, Loas, Mux, Memory}
 use Rattle.au_stream.specs.Elements.{IsElement}
+use Rattle.au_stream.specs.Script.{most_bytes}
 use Rattle.au_stream.specs.Reading.{Reading}
 
 -- an element's own configuration changes the UsacConfig that is in force before it
@@ -55,3 +56,13 @@ pub record Gave (old new : Reading) (event : Event) : Type 0 where
   pub changed : event.changed ≡ old.changed
   pub opens : event.opens ≡ old.opens
   pub left : new ≡ record old { pending = rest; opens = false; changed = false; count = old.count + 1 }
+
+-- What a source may still give weighs less behind each frame: the bytes that are still to be got, those that are held, and the
+-- access units that are still to be given.
+abbrev pub weight : Reading → ℕ
+weight r = (most_bytes - pushed r.framer) + length r.framer.held + length r.pending
+
+abbrev pub Falls : Reading → Reading → Result (Option Event) StreamFault → Type 0
+Falls old new (Ok (Some event)) = weight new < weight old
+Falls old new (Ok None) = Unit {0}
+Falls old new (Err fault) = Unit {0}

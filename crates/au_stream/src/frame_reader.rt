@@ -66,7 +66,9 @@ impl FrameReader {
         'pieces: loop {
             match self.front() {
                 Front::Frame(length) => return Ok(Some(length)),
-                Front::Lost => return Err(StreamFault::Loas(LoasFault::SyncLost { byte: self.framer.at() })),
+                Front::Lost => return Err(StreamFault::Loas(LoasFault::SyncLost {
+                    byte: self.framer.at(),
+                })),
                 Front::Part => {}
             }
             if !self.refill(source)? {

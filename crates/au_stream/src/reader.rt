@@ -1,11 +1,13 @@
 // The access units of a source.
-ghost use Rattle.std.specs.Prelude.{◌≡◌, ◌↔◌, ◌∷◌, [], ℕ, List, None, Ok, IsTrue, IsErr, OnErr, ◌+◌, ◌<◌, ◌≤◌, false, true, length};
+ghost use Rattle.std.specs.Prelude.{◌≡◌, ◌↔◌, ◌∷◌, [], ℕ, List, None, Some, Ok, IsTrue, IsErr, OnErr, ◌+◌, ◌<◌, ◌≤◌, false, true, length};
 ghost use Rattle.std.specs.Option.{option_copied, option_map};
+ghost use Rattle.layout.specs.Layout.{FitsOption};
 ghost use Rattle.loas.specs.Framing.{BeginsWithFrame};
+ghost use Rattle.latm.specs.MuxConfig.{IsWellFormed};
 ghost use Rattle.au_stream.specs.Frames.{Frame, last_of};
 ghost use Rattle.au_stream.specs.Taking.{seen, IsReadFault, Caused};
 ghost use Rattle.au_stream.specs.Reading.{HasRead};
-ghost use Rattle.au_stream.specs.Giving.{Changes, with_element, refused_element, TakesElement, Gave};
+ghost use Rattle.au_stream.specs.Giving.{Changes, with_element, refused_element, TakesElement, Gave, Falls};
 ghost use Rattle.au_stream.specs.Events.{Reads};
 
 use crate::event::Event;
@@ -38,6 +40,8 @@ pub struct AuReader {
 
 impl Model for AuReader {
     ghost use Rattle.std.specs.Prelude.{◌≤◌, ◌+◌, vec_len, reverse};
+    ghost use Rattle.layout.specs.Layout.{FitsOption};
+    ghost use Rattle.latm.specs.MuxConfig.{IsWellFormed};
     ghost use Rattle.loas.specs.Framer.{pushed};
     ghost use Rattle.au_stream.specs.Script.{most_bytes};
     ghost use Rattle.au_stream.specs.Reading.{Reading};
@@ -54,7 +58,7 @@ impl Model for AuReader {
       failed = r.failed;
     } };
 
-    ghost invariant = { λ r. (r.count + vec_len r.pending ≤ r.frames.passed) × (pushed r.frames ≤ most_bytes) };
+    ghost invariant = { λ r. (r.count + vec_len r.pending ≤ r.frames.passed) × (pushed r.frames ≤ most_bytes) × FitsOption IsWellFormed r.in_force };
 }
 
 // Why no frame is given where the element of the frame with that number is not read.
@@ -64,6 +68,16 @@ fn refused(frame: u64, fault: MuxFault) -> StreamFault
     match fault {
         MuxFault::Memory(error) => StreamFault::Memory(error),
         fault => StreamFault::Mux { frame, fault },
+    }
+}
+
+// Whether a StreamMuxConfig changes the UsacConfig in force.
+fn is_change(in_force: &Option<MuxConfig>, config: &MuxConfig) -> bool
+    ensures { IsTrue result ↔ Changes in_force.now (Some config.now) }
+{
+    match in_force {
+        None => true,
+        Some(before) => !before.asc.usac.same(&config.asc.usac),
     }
 }
 
@@ -103,6 +117,7 @@ impl AuReader {
         ensures after_fault { self.old.failed ≡ true → (result ≡ Ok None) × (self.new ≡ self.old) × (source.new ≡ source.old) }
         ensures failed { self.old.failed ≡ false → IsTrue self.new.failed ↔ IsErr result }
         ensures kept { OnErr result (self.new.in_force ≡ self.old.in_force) }
+        ensures falls { Falls self.old self.new result }
         ensures caused { Caused (S.faults source.old) (S.faults source.new) result }
         ensures other { S.other source.new ≡ S.other source.old }
         ensures calm { S.calm source.old → S.calm source.new }
@@ -126,6 +141,7 @@ impl AuReader {
     /// The StreamMuxConfig in force for the last frame that was given; None exactly before the first one.
     pub fn mux(&self) -> Option<&MuxConfig>
         ensures in_force { option_copied result ≡ self.now.in_force }
+        ensures well_formed { FitsOption IsWellFormed (option_copied result) }
         ensures last { (got : List ℕ) (given : List Frame) → HasRead got given self.now → option_copied result ≡ option_map (λ f. f.mux) (last_of given) }
     {
         self.in_force.as_ref()
@@ -160,6 +176,7 @@ impl AuReader {
         ensures reads { (got : List ℕ) (given : List Frame) → HasRead got given self.old →
             Reads got given self.old self.new (seen S.left S.faults source.old) (seen S.left S.faults source.new) result }
         ensures kept { OnErr result (self.new.in_force ≡ self.old.in_force) }
+        ensures falls { Falls self.old self.new result }
         ensures going { self.new.failed ≡ self.old.failed }
         ensures caused { Caused (S.faults source.old) (S.faults source.new) result }
         ensures other { S.other source.new ≡ S.other source.old }
@@ -192,6 +209,7 @@ impl AuReader {
     // Holds the access units of an element, and puts its configuration in force, where it has one.
     fn hold(&mut self, element: MuxElement)
         requires room { self.old.count + length element.slots ≤ self.old.framer.passed }
+        requires well_formed { FitsOption IsWellFormed element.config }
         ensures held { self.new ≡ with_element element self.new.changed self.old }
         ensures changed { IsTrue self.new.changed ↔ Changes self.old.in_force element.config }
     {
@@ -202,10 +220,7 @@ impl AuReader {
         self.opens = config.is_some();
         self.changed = false;
         if let Some(config) = config {
-            self.changed = match &self.in_force {
-                None => true,
-                Some(before) => !before.asc.usac.same(&config.asc.usac),
-            };
+            self.changed = is_change(&self.in_force, &config);
             self.in_force = Some(config);
         }
     }

@@ -1,7 +1,7 @@
 use Rattle.std.proofs.Common.{◌≡◌, List, [], ℕ, length, rules, arith, ap, ◌∙◌, sym, subst}
 use Rattle.std.specs.Prelude.{reverse}
 use Rattle.std.proofs.lemmas.Result.{err_from_is_err_and}
-use Rattle.au_stream.proofs.Steps.{no_items, reads_pending, reads_next, reads_end, reads_refused, reads_untaken}
+use Rattle.au_stream.proofs.Steps.{no_items, reads_pending, reads_next, reads_end, reads_refused, reads_untaken, falls_pending, falls_next}
 use Rattle.au_stream.proofs.reader.AuReader.advance.Goals.{then-is_empty+in_ok-length+in-Some+in_ok-take_element, else-is_empty}
 use Rattle.au_stream.proofs.reader.AuReader.advance.Goals as goal
 
@@ -35,4 +35,17 @@ returns-clause-reads g c = λ got given h.
       | else-is_empty w ↦
           let gave = rw w.self-is at c.give.ensures in
           rw w.source-is (reads_pending got given c.args.self.now c.give.new.self _ c.give.result h gave)
+    ]
+
+pub returns-clause-falls : goal.returns-clause-falls
+returns-clause-falls g c =
+    elim c.if-is_empty.branch [
+      | then-is_empty+in_ok-length+in-Some+in_ok-take_element w ↦
+          let len : length c.self.inside.pending.items ≡ 0 = search rules in
+          let next = rw w.in-Some.is at w.in_ok-length.ensures in
+          let gave = rw w.self-is at c.give.ensures in
+          rw (← c.self.view_is) (falls_next _ w.take_element.new.self c.give.new.self w.next.new.self _ _ w.in-Some.length c.give.result (no_items c.self.inside.pending.items len) next.takes next.limit w.in_ok-take_element.ensures gave)
+      | else-is_empty w ↦
+          let gave = rw w.self-is at c.give.ensures in
+          falls_pending c.args.self.now c.give.new.self c.give.result gave
     ]

@@ -16,7 +16,7 @@ hold-requires c =
     let is : IsElement (option_copied c.as_ref.result) c.in-Ok.element c.body.result.now = record { fits = f.0; spelled = f.1 } in
     let few = slots_fit (option_copied c.as_ref.result) c.in-Ok.element c.body.result.now is in
     let long : length c.body.result.now ≡ c.args.n = ap length c.body.ensures ∙ begins-length c.args.n c.self.inside.frames.held (rw (← c.self.view_is) at c.requires.here) in
-    record { room = omega (arith, few, long, c.self.invariant.0, ap (λ f. f.passed) c.pass.ensures) }
+    record { room = omega (arith, few, long, c.self.invariant.0, ap (λ f. f.passed) c.pass.ensures); well_formed = f.0.0.1.1 }
 
 pub returns-in-Err : goal.returns-in-Err
 returns-in-Err c =
