@@ -4,3 +4,4 @@ pub mod FrameLists
 pub mod Counting
 pub mod Scripts
 pub mod Steps
+pub mod Small

@@ -115,3 +115,21 @@ frames_begin whole more es held le c =
     let first = first_of_longest (take most_bytes (whole ++ more)) es (held ++ x) all.0 all.1 (carried_on whole more es held le c) all.2 in
     let later = frames_from (in_force_behind None es) first.0 in
     (later, record { elements = all.0; rest = all.1; longest = all.2; each = sym (frames-append None es first.0) ∙ ap (λ (fs : List MuxElement). frames_from None fs) (sym first.1) })
+
+pub frames_of_script : (text : List ℕ) (frames : List Frame) (mark : Mark) → IsScript text frames mark → HasFrames text frames
+frames_of_script text frames mark s = record { elements = s.elements; rest = s.rest; longest = s.longest; each = s.each }
+
+-- the frames of what was taken of a source are the first of its frames
+pub frames_of_front : (taken more : List ℕ) (frames : List Frame) (mark : Mark) → IsScript taken frames mark → IsOpen mark → (later : List Frame) × HasFrames (taken ++ more) (frames ++ later)
+frames_of_front taken more frames mark s open_is =
+    let le = short mark s.ends open_is in
+    let c : Carries None taken s.elements s.rest = subst (λ (t : List ℕ). Carries None t s.elements s.rest) (all_counted taken le) s.longest.carried in
+    let f = frames_begin taken more s.elements s.rest le c in
+    (f.0, subst (λ (x : List Frame). HasFrames (taken ++ more) (x ++ f.0)) (sym s.each) f.1)
+  where
+    short : (m : Mark) → IsMark taken (in_force_behind None s.elements) (length frames) s.rest m → IsOpen m → length taken ≤ most_bytes
+    short End e o = e.1
+    short (SyncLost byte) e o = absurd o
+    short (BadElement frame fault) e o = absurd o
+    short (Truncated byte) e o = e.2
+    short TooLarge e o = absurd o

@@ -454,3 +454,11 @@ falls_next r mid new framer before now n event none t limit took_is g =
       ap (λ (f : Framer). length f.held) grew,
       length-append r.framer.held t.got,
     )
+
+-- the frames that were given are the first of the source's
+pub read_frames : (got rest : List ℕ) (given : List Frame) (r : Reading) → HasRead got given r → (later : List Frame) × HasFrames (got ++ rest) (given ++ later)
+read_frames got rest given r h =
+    let s = h.holds in
+    let p = pending_frames r in
+    let f = frames_begin got rest s.elements r.framer.held s.few s.carried in
+    (p ++ f.0, subst (λ (x : List Frame). HasFrames (got ++ rest) x) (ap (λ (x : List Frame). x ++ f.0) s.frames ∙ append_assoc given p f.0) f.1)

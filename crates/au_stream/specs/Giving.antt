@@ -1,5 +1,5 @@
 -- What a reader does with one element.
-use Rattle.std.specs.Prelude.{◌≡◌, ◌≢◌, ℕ, ◌+◌, ◌-◌, ◌<◌, Bool, false, List, ◌∷◌, length, take, drop, Option, Some, None, is_some, Result, Ok, Err, IsTrue, ◌↔◌}
+use Rattle.std.specs.Prelude.{◌≡◌, ◌≢◌, ℕ, ◌+◌, ◌-◌, ◌<◌, ◌≤◌, Bool, false, List, ◌∷◌, length, take, drop, Option, Some, None, is_some, Result, Ok, Err, IsTrue, ◌↔◌}
 use Rattle.layout.specs.Text.{bits_of}
 use Rattle.loas.specs.Framer.{past_frame, pushed}
 use Rattle.latm.specs.declared.fault.MuxFault.{MuxFault}
@@ -66,3 +66,9 @@ abbrev pub Falls : Reading → Reading → Result (Option Event) StreamFault →
 Falls old new (Ok (Some event)) = weight new < weight old
 Falls old new (Ok None) = Unit {0}
 Falls old new (Err fault) = Unit {0}
+
+-- An access unit is no longer than an element.
+abbrev pub IsSmall : Result (Option Event) StreamFault → Type 0
+IsSmall (Ok (Some event)) = length event.au ≤ 8191
+IsSmall (Ok None) = Unit {0}
+IsSmall (Err fault) = Unit {0}

@@ -5,9 +5,10 @@ ghost use Rattle.layout.specs.Layout.{FitsOption};
 ghost use Rattle.loas.specs.Framing.{BeginsWithFrame};
 ghost use Rattle.latm.specs.MuxConfig.{IsWellFormed};
 ghost use Rattle.au_stream.specs.Frames.{Frame, last_of};
+ghost use Rattle.au_stream.specs.Script.{most_bytes};
 ghost use Rattle.au_stream.specs.Taking.{seen, IsReadFault, Caused};
 ghost use Rattle.au_stream.specs.Reading.{HasRead};
-ghost use Rattle.au_stream.specs.Giving.{Changes, with_element, refused_element, TakesElement, Gave, Falls};
+ghost use Rattle.au_stream.specs.Giving.{Changes, with_element, refused_element, TakesElement, Gave, Falls, IsSmall};
 ghost use Rattle.au_stream.specs.Events.{Reads};
 
 use crate::event::Event;
@@ -114,6 +115,8 @@ impl AuReader {
     ) -> Result<Option<Event>, StreamFault>
         ensures reads { (got : List ℕ) (given : List Frame) → HasRead got given self.old →
             Reads got given self.old self.new (seen S.left S.faults source.old) (seen S.left S.faults source.new) result }
+        ensures small { (got : List ℕ) (given : List Frame) → HasRead got given self.old → IsSmall result }
+        ensures few { self.new.count ≤ most_bytes }
         ensures after_fault { self.old.failed ≡ true → (result ≡ Ok None) × (self.new ≡ self.old) × (source.new ≡ source.old) }
         ensures failed { self.old.failed ≡ false → IsTrue self.new.failed ↔ IsErr result }
         ensures kept { OnErr result (self.new.in_force ≡ self.old.in_force) }
