@@ -133,3 +133,8 @@ frames_of_front taken more frames mark s open_is =
     short (BadElement frame fault) e o = absurd o
     short (Truncated byte) e o = e.2
     short TooLarge e o = absurd o
+
+pub some_frames : (text : List ℕ) → (frames : List Frame) × HasFrames text frames
+some_frames text =
+    let all = exists_longest (take most_bytes text) in
+    (frames_from None all.0, record { elements = all.0; rest = all.1; longest = all.2; each = refl })

@@ -1,43 +1,52 @@
 -- A command on a source, from frame to frame and to its end.
-use Rattle.std.proofs.Common.{◌≡◌, ℕ, suc, ◌+◌, ◌-◌, ◌*◌, ◌<◌, ◌≤◌, Bool, true, false, ltb, List, [], ◌∷◌, ◌++◌, length, take, drop, Option, Some, None, Ok, Err, refl, sym, ap, subst, ◌∙◌, append_assoc, arith, inl, inr}
-use Rattle.std.proofs.lemmas.Bool.{lt-ltb}
-use Rattle.std.proofs.lemmas.List.{length-append, append-nil, length-drop, take_all}
+use Rattle.std.proofs.Common.{◌≡◌, ℕ, ◌+◌, ◌-◌, ◌<◌, ◌≤◌, Bool, true, false, List, [], ◌∷◌, ◌++◌, length, take, Option, Some, None, Result, Ok, Err, refl, sym, ap, subst, ◌∙◌, append_assoc, arith, inl, inr}
+use Rattle.std.specs.Prelude.{◌≢◌}
+use Rattle.std.specs.Option.{option_map}
+use Rattle.std.proofs.lemmas.List.{length-append, append-nil, take_all}
 use Rattle.std.proofs.Math.Seq.{take-append-add}
 use Rattle.std.specs.Io.KnownBytes.{prepend_known, append_known}
 use Rattle.core_iface.specs.Answering.{Running, Meaning}
-use Rattle.xheaac_tool.specs.declared.frame.Frame.{Frame}
+use Rattle.latm.specs.declared.mux_config.MuxConfig.{MuxConfig}
+use Rattle.loas.specs.declared.fault.LoasFault.TheVariants as loas
+use Rattle.tool_text.specs.declared.refusal.Refusal.{Refusal}
+use Rattle.tool_text.specs.Refusal.{refusal_text}
+use Rattle.au_stream.specs.declared.event.Event.{Event}
+use Rattle.au_stream.specs.declared.fault.StreamFault.{StreamFault}
+use Rattle.au_stream.specs.declared.fault.StreamFault.TheVariants as streams
+use Rattle.au_stream.specs.Frames.{Frame, last_of}
+use Rattle.au_stream.specs.Script.{most_bytes, Mark, End, SyncLost, BadElement, Truncated, TooLarge, HasFrames, IsScript, IsOpen}
+use Rattle.au_stream.specs.Reading.{Reading, HasRead}
+use Rattle.au_stream.specs.Taking.{Seen}
+use Rattle.au_stream.specs.Events.{IsEvent, Answers, Reads}
+use Rattle.au_stream.proofs.FrameLists.{last-push}
+use Rattle.au_stream.proofs.Scripts.{frames_of_script}
+use Rattle.au_stream.proofs.Steps.{read_frames}
 use Rattle.xheaac_tool.specs.declared.frame_end.FrameEnd.{FrameEnd}
 use Rattle.xheaac_tool.specs.declared.frame_end.FrameEnd.TheVariants as frames
-use Rattle.xheaac_tool.specs.declared.stream_end.StreamEnd.{StreamEnd}
-use Rattle.xheaac_tool.specs.declared.stream_end.StreamEnd.TheVariants as streams
 use Rattle.xheaac_tool.specs.declared.outcome.Outcome.{Outcome}
 use Rattle.xheaac_tool.specs.declared.outcome.Outcome.TheVariants as is
-use Rattle.xheaac_tool.specs.Framing.{framed, IsFrameBody, IsLost, BeginsWithFrame}
-use Rattle.xheaac_tool.specs.Reading.{Reading, grown, most_bytes}
-use Rattle.xheaac_tool.specs.Taking.{Takes}
-use Rattle.xheaac_tool.specs.Carrying.{Choice, Carries, IsBuilt, in_force_behind}
-use Rattle.xheaac_tool.specs.Jobs.{Job, step_through, bytes_through}
-use Rattle.xheaac_tool.specs.Commands.{fed_for}
+use Rattle.xheaac_tool.specs.Commands.{Command, Takes, TakesAll, fed_for}
+use Rattle.xheaac_tool.specs.Jobs.{Job, GivesOutput, step_through, bytes_through}
 use Rattle.xheaac_tool.specs.Handing.{WrotePart}
 use Rattle.xheaac_tool.specs.OneFrame.{Handles, DidFrame, DidPart, DidNone}
-use Rattle.xheaac_tool.specs.Texts.{not_built_text}
-use Rattle.xheaac_tool.specs.Ending.{Traces}
-use Rattle.xheaac_tool.specs.Doing.{GoesOn, DidAll, DidFront, IsRefusal, Stops, DoesSource, IsRefusedAt, Becomes, BecomesOf}
-use Rattle.xheaac_tool.proofs.Found.{begins-fits, partial-empty}
+use Rattle.xheaac_tool.specs.Ending.{Traces, WroteAll, WroteFront, RefusesFrame, RefusesMark, TakesFirst, Passes, Ends, refusal_of_mark}
+use Rattle.xheaac_tool.specs.Doing.{GoesOn, DoesSource, IsRefusedBy, Becomes, BecomesOf}
 use Rattle.xheaac_tool.proofs.Handing.{append-append}
-use Rattle.xheaac_tool.proofs.Pieces.{prepend-prepend}
-use Rattle.xheaac_tool.proofs.Runs.{carries_more, carries_push, unbuilt_stuck, lost_stuck}
-use Rattle.xheaac_tool.specs.Outputs.{bytes_push, step_push}
 
 pub prepend-none : (known : Option (List ℕ)) → known ≡ prepend_known [] known
 prepend-none None = refl
 prepend-none (Some bytes) = refl
 
+pub prepend-prepend : (a b : List ℕ) (known : Option (List ℕ)) → prepend_known a (prepend_known b known) ≡ prepend_known (a ++ b) known
+prepend-prepend a b None = refl
+prepend-prepend a b (Some xs) = ap Some (sym (append_assoc a b xs))
+
 pub append-none : (known : Option (List ℕ)) → known ≡ append_known known []
 append-none None = refl
 append-none (Some bytes) = ap Some (sym (append-nil bytes))
 
--- one unit more, where units are fed
+-- ---- units that are fed
+
 pub fed_more : (b : Bool) (n : ℕ) → fed_for b (n + 1) ≡ fed_for b n + fed_for b 1
 fed_more true n = refl
 fed_more false n = refl
@@ -50,247 +59,239 @@ pub fed_few : (b : Bool) (n : ℕ) → fed_for b n ≤ n
 fed_few true n = omega arith
 fed_few false n = omega arith
 
--- a configuration is in force exactly where a frame was counted
-pub in_force_is : (fs : List Frame) (count : ℕ) → count ≡ length fs → ltb 0 count ≡ in_force_behind false fs
-in_force_is [] count e = rw e refl
-in_force_is (f ∷ fs) count e = rw e (lt-ltb 0 (suc (length fs)) (omega arith))
-
 pub fed_none : (b : Bool) (n : ℕ) → n ≡ n + fed_for b 0
 fed_none true n = omega arith
 fed_none false n = omega arith
 
-pub starts : (j : Job) (old : Meaning) (left before : Option (List ℕ)) (reader : Reading) → reader.held ≡ [] → reader.taken ≡ 0 → GoesOn j old old left left before before reader 0
-starts j old left before reader held taken = record {
-  frames = [];
+-- ---- one more frame
+
+pub takes_push : (c : Command) (before fs : List Frame) (f : Frame) → TakesAll c before fs → Takes c (before ++ fs) f → TakesAll c before (fs ++ f ∷ [])
+takes_push c before [] f h t = (subst (λ (x : List Frame). Takes c x f) (append-nil before) t, tt)
+takes_push c before (g ∷ fs) f h t = (h.0, takes_push c (before ++ g ∷ []) fs f h.1 (subst (λ (x : List Frame). Takes c x f) (sym (append_assoc before (g ∷ []) fs)) t))
+
+bytes_push : (j : Job) (before : List Frame) (ready : Option Running) (fs : List Frame) (f : Frame)
+    → bytes_through j before ready (fs ++ f ∷ []) ≡ bytes_through j before ready fs ++ j.bytes (before ++ fs) (step_through j before ready fs) f
+bytes_push j before ready [] f = append-nil (j.bytes before ready f) ∙ ap (λ (x : List Frame). j.bytes x ready f) (sym (append-nil before))
+bytes_push j before ready (g ∷ fs) f =
+    let here = j.bytes before ready g in
+    let next = j.step before ready g in
+    let then = before ++ g ∷ [] in
+    ap (λ (xs : List ℕ). here ++ xs) (bytes_push j then next fs f)
+    ∙ sym (append_assoc here (bytes_through j then next fs) (j.bytes (then ++ fs) (step_through j then next fs) f))
+    ∙ ap (λ (x : List Frame). (here ++ bytes_through j then next fs) ++ j.bytes x (step_through j then next fs) f) (append_assoc before (g ∷ []) fs)
+
+step_push : (j : Job) (before : List Frame) (ready : Option Running) (fs : List Frame) (f : Frame) → step_through j before ready (fs ++ f ∷ []) ≡ j.step (before ++ fs) (step_through j before ready fs) f
+step_push j before ready [] f = ap (λ (x : List Frame). j.step x ready f) (sym (append-nil before))
+step_push j before ready (g ∷ fs) f =
+    let then = before ++ g ∷ [] in
+    let next = j.step before ready g in
+    step_push j then next fs f ∙ ap (λ (x : List Frame). j.step x (step_through j then next fs) f) (append_assoc before (g ∷ []) fs)
+
+pub starts : (j : Job) (old : Meaning) (left before : Option (List ℕ)) (reader : Reading) → HasRead [] [] reader → GoesOn j old old left left before before reader
+starts j old left before reader read = record {
+  given = [];
   got = [];
   from = prepend-none left;
-  taken = taken;
-  carried = sym held;
-  counted = refl;
+  read = read;
+  takes = tt;
   ready = refl;
   needed = λ h. absurd (omega arith);
   fed = fed_none j.command.feeds old.fed;
   output = append-none before;
 }
 
--- the bytes of the frames before a frame, and a front of its own
-output_front : (j : Job) (ready mid_ready : Option Running) (fs : List Frame) (f : Frame) (before w1 w2 : Option (List ℕ)) (bytes : List ℕ) → w1 ≡ append_known before (bytes_through j ready fs)
-    → w2 ≡ append_known w1 bytes → w2 ≡ append_known before (bytes_through j ready fs ++ bytes)
-output_front j ready mid_ready fs f before w1 w2 bytes one two = two ∙ ap (λ (w : Option (List ℕ)). append_known w bytes) one ∙ append-append before (bytes_through j ready fs) bytes
+-- the frame of an event
+pub record Next (got : List ℕ) (given : List Frame) (new : Reading) (event : Event) (mux : MuxConfig) : Type 0 where
+  pub frame : Frame
+  pub is : IsEvent given frame event
+  pub read : HasRead got (given ++ frame ∷ []) new
+  pub mux_is : mux ≡ frame.mux
+
+pub next_frame : (got : List ℕ) (given : List Frame) (old new : Reading) (before now : Seen) (event : Event) (mux : MuxConfig) → (p : Reads got given old new before now (Ok (Some event)))
+    → ((taken : List ℕ) (fs : List Frame) → HasRead taken fs new → Some mux ≡ option_map (λ (f : Frame). f.mux) (last_of fs)) → Next (got ++ p.more) given new event mux
+next_frame got given old new before now event mux p last =
+    let k = p.leaves in
+    let e : Some mux ≡ Some k.0.mux = last (got ++ p.more) (given ++ k.0 ∷ []) k.2 ∙ ap (λ (l : Option Frame). option_map (λ (f : Frame). f.mux) l) (last-push given k.0) in
+    record { frame = k.0; is = k.1; read = k.2; mux_is = cc }
+
+-- the bytes of the frames before a frame, and bytes of its own
+output_front : (j : Job) (ready : Option Running) (given : List Frame) (before w1 w2 : Option (List ℕ)) (bytes : List ℕ) → w1 ≡ append_known before (bytes_through j [] ready given)
+    → w2 ≡ append_known w1 bytes → w2 ≡ append_known before (bytes_through j [] ready given ++ bytes)
+output_front j ready given before w1 w2 bytes one two = two ∙ ap (λ (w : Option (List ℕ)). append_known w bytes) one ∙ append-append before (bytes_through j [] ready given) bytes
 
 -- the bytes of frames, and of one more
-output_more : (j : Job) (ready mid_ready : Option Running) (fs : List Frame) (f : Frame) → mid_ready ≡ step_through j ready fs
-    → bytes_through j ready fs ++ j.bytes mid_ready f ≡ bytes_through j ready (fs ++ f ∷ [])
-output_more j ready mid_ready fs f e = ap (λ (r : Option Running). bytes_through j ready fs ++ j.bytes r f) e ∙ sym (bytes_push j ready fs f)
+output_more : (j : Job) (ready mid_ready : Option Running) (fs : List Frame) (f : Frame) → mid_ready ≡ step_through j [] ready fs
+    → bytes_through j [] ready fs ++ j.bytes fs mid_ready f ≡ bytes_through j [] ready (fs ++ f ∷ [])
+output_more j ready mid_ready fs f e = ap (λ (r : Option Running). bytes_through j [] ready fs ++ j.bytes fs r f) e ∙ sym (bytes_push j [] ready fs f)
 
--- what stands at the front of the bytes that were got, behind the frames
-pub frame_here : (r2 : Reading) (n : ℕ) (body : List ℕ) → BeginsWithFrame n r2.held → body ≡ take n (drop 3 r2.held) → IsFrameBody body × (r2.held ≡ framed body ++ drop (3 + n) r2.held)
-frame_here r2 n body b e = (subst IsFrameBody (sym e) (begins-fits n r2.held b), b.spelled ∙ ap (λ (x : List ℕ). framed x ++ drop (3 + n) r2.held) (sym e))
-
--- what was got carries the frames and what is held
-pub carried_on : (k : Choice) (fs : List Frame) (got more : List ℕ) (r1 r2 : Reading) → Carries k false got fs r1.held → r2 ≡ grown r1 more → Carries k false (got ++ more) fs r2.held
-carried_on k fs got more r1 r2 c e = subst (λ (t : List ℕ). Carries k false (got ++ more) fs t) (sym (ap (λ (r : Reading). r.held) e)) (carries_more k false got fs r1.held more c)
-
--- one frame more
-pub goes_on : (j : Job) (old mid now : Meaning) (left0 left1 left2 before w1 w2 : Option (List ℕ)) (r1 r2 r3 : Reading) (count n f1 f2 : ℕ) (body : List ℕ)
-    → GoesOn j old mid left0 left1 before w1 r1 count → Takes most_bytes r1 r2 (record { left = left1; faults = f1 }) (record { left = left2; faults = f2 }) (Ok (Some n))
-    → body ≡ take n (drop 3 r2.held) → r3 ≡ record r2 { held = drop (3 + n) r2.held } → DidFrame j (ltb 0 count) body mid now w1 w2 → GoesOn j old now left0 left2 before w2 r3 (count + 1)
-goes_on j old mid now left0 left1 left2 before w1 w2 r1 r2 r3 count n f1 f2 body s t body-is passed p =
-    let here = frame_here r2 n body t.answered.1 body-is in
-    let built = subst (λ (o : Bool). IsBuilt j.command.takes o p.frame body) (in_force_is s.frames count s.counted) p.built in
-    let carried = carries_push j.command.takes false (s.got ++ t.got) s.frames r2.held p.frame body (drop (3 + n) r2.held) (carried_on j.command.takes s.frames s.got t.got r1 r2 s.carried t.answered.0) here.0 here.1 built in
-    record {
-      frames = s.frames ++ p.frame ∷ [];
-      got = s.got ++ t.got;
-      from = s.from ∙ ap (prepend_known s.got) t.from ∙ prepend-prepend s.got t.got left2;
-      taken = omega (arith, ap (λ (r : Reading). r.taken) passed, ap (λ (r : Reading). r.taken) t.answered.0, s.taken, length-append s.got t.got);
-      carried = subst (λ (x : List ℕ). Carries j.command.takes false (s.got ++ t.got) (s.frames ++ p.frame ∷ []) x) (sym (ap (λ (r : Reading). r.held) passed)) carried;
-      counted = omega (arith, s.counted, length-append s.frames (p.frame ∷ []));
-      ready = p.ready ∙ ap (λ (r : Option Running). j.step r p.frame) s.ready ∙ sym (step_push j old.ready s.frames p.frame);
-      needed = λ h. p.needed;
-      fed = omega (arith, p.fed, s.fed, fed_more j.command.feeds count);
-      output = output_front j old.ready mid.ready s.frames p.frame before w1 w2 (j.bytes mid.ready p.frame) s.output p.written
-          ∙ ap (λ (x : List ℕ). append_known before x) (output_more j old.ready mid.ready s.frames p.frame s.ready);
-    }
+-- one frame more was handled
+pub goes_on : (j : Job) (old mid now : Meaning) (left0 left1 left2 before w1 w2 : Option (List ℕ)) (r1 r2 : Reading) (f1 f2 : ℕ) (event : Event) (mux : MuxConfig)
+    → (s : GoesOn j old mid left0 left1 before w1 r1) → (p : Reads s.got s.given r1 r2 (record { left = left1; faults = f1 }) (record { left = left2; faults = f2 }) (Ok (Some event)))
+    → (n : Next (s.got ++ p.more) s.given r2 event mux) → DidFrame j s.given n.frame mid now w1 w2 → GoesOn j old now left0 left2 before w2 r2
+goes_on j old mid now left0 left1 left2 before w1 w2 r1 r2 f1 f2 event mux s p n d = record {
+  given = s.given ++ n.frame ∷ [];
+  got = s.got ++ p.more;
+  from = s.from ∙ ap (prepend_known s.got) p.from ∙ prepend-prepend s.got p.more left2;
+  read = n.read;
+  takes = takes_push j.command [] s.given n.frame s.takes d.takes;
+  ready = d.ready ∙ ap (λ (r : Option Running). j.step s.given r n.frame) s.ready ∙ sym (step_push j [] old.ready s.given n.frame);
+  needed = λ h. d.needed;
+  fed = omega (arith, d.fed, s.fed, fed_more j.command.feeds (length s.given), ap (λ (k : ℕ). fed_for j.command.feeds k) (length-append s.given (n.frame ∷ [])));
+  output = output_front j old.ready s.given before w1 w2 (j.bytes s.given mid.ready n.frame) s.output d.written
+      ∙ ap (λ (x : List ℕ). append_known before x) (output_more j old.ready mid.ready s.given n.frame s.ready);
+}
 
 -- ---- the end
 
-abbrev traces : Option (List ℕ) → Option (List ℕ) → ℕ → ℕ → Traces
+abbrev pub traces : Option (List ℕ) → Option (List ℕ) → ℕ → ℕ → Traces
 traces before after fed_before fed_after = record { written_before = before; written_after = after; fed_before = fed_before; fed_after = fed_after }
 
-fed_all : (b : Bool) (fed old count : ℕ) (fs : List Frame) → fed ≡ old + fed_for b count → count ≡ length fs → fed ≡ old + fed_for b (length fs)
-fed_all b fed old count fs f e = f ∙ ap (λ (n : ℕ). old + fed_for b n) e
+-- what was written between two frames
+pub wrote_all : (j : Job) (gives : GivesOutput j) (old mid : Meaning) (left0 left1 before w1 : Option (List ℕ)) (r : Reading) (s : GoesOn j old mid left0 left1 before w1 r) → WroteAll j.command s.given (traces before w1 old.fed mid.fed)
+wrote_all j gives old mid left0 left1 before w1 r s = record { written = s.output ∙ ap (λ (x : List ℕ). append_known before x) (gives old.ready s.given s.takes); fed = s.fed }
 
-more_counted : (count : ℕ) (fs : List Frame) (f : Frame) → count ≡ length fs → count + 1 ≡ length (fs ++ f ∷ [])
-more_counted count fs f e = omega (arith, e, length-append fs (f ∷ []))
+pub all_front : (c : Command) (fs : List Frame) (t : Traces) → WroteAll c fs t → WroteFront c fs t
+all_front c fs t w =
+    let xs = c.output fs in
+    record { written = (length xs, w.written ∙ ap (λ (x : List ℕ). append_known t.written_before x) (sym (take_all (length xs) xs (omega arith)))); fed = omega (arith, w.fed, fed_later c.feeds (length fs)) }
 
-played_all : (j : Job) (old mid : Meaning) (left0 left1 before w1 : Option (List ℕ)) (r1 : Reading) (count : ℕ) (s : GoesOn j old mid left0 left1 before w1 r1 count) → DidAll j old.ready s.frames (traces before w1 old.fed mid.fed)
-played_all j old mid left0 left1 before w1 r1 count s = record { written = s.output; fed = fed_all j.command.feeds _ _ _ _ s.fed s.counted }
+-- the same where nothing more was done but, perhaps, a unit fed
+same_all : (c : Command) (fs : List Frame) (before w1 w2 : Option (List ℕ)) (fed0 fed1 fed2 : ℕ) → WroteAll c fs (traces before w1 fed0 fed1) → w2 ≡ w1 → fed2 ≡ fed1 → WroteAll c fs (traces before w2 fed0 fed2)
+same_all c fs before w1 w2 fed0 fed1 fed2 w same fed = record { written = same ∙ w.written; fed = fed ∙ w.fed }
 
-all_front : (j : Job) (ready : Option Running) (fs : List Frame) (t : Traces) → DidAll j ready fs t → DidFront j ready fs t
-all_front j ready fs t p =
-    let bytes = bytes_through j ready fs in
-    record { written = (length bytes, p.written ∙ ap (λ (x : List ℕ). append_known t.written_before x) (sym (take_all (length bytes) bytes (omega arith)))); fed = omega (arith, p.fed, fed_later j.command.feeds (length fs)) }
-
--- a text of which no part can begin a frame has a byte
-lost_some : (rest : List ℕ) → IsLost rest → 0 < length rest
-lost_some [] l = absurd (l.no_part partial-empty)
-lost_some (b ∷ rest) l = omega arith
-
-nothing_more : (j : Job) (old mid now : Meaning) (left0 left1 before w1 w2 : Option (List ℕ)) (r1 : Reading) (count : ℕ) (s : GoesOn j old mid left0 left1 before w1 r1 count) → DidNone j mid now w1 w2
-    → DidFront j old.ready s.frames (traces before w2 old.fed now.fed)
-nothing_more j old mid now left0 left1 before w1 w2 r1 count s none =
-    let bytes = bytes_through j old.ready s.frames in
-    record { written = (length bytes, none.written ∙ s.output ∙ ap (λ (x : List ℕ). append_known before x) (sym (take_all (length bytes) bytes (omega arith)))); fed = omega (arith, none.fed, s.fed, fed_more j.command.feeds count, ap (λ (n : ℕ). fed_for j.command.feeds (n + 1)) s.counted) }
-
--- a refusal, or no memory for its text
-stops_refused : (j : Job) (ready : Option Running) (fs : List Frame) (whole beyond rest : List ℕ) (left : Option (List ℕ)) (t : Traces) (count : ℕ) (outcome : Outcome)
-    → IsRefusedAt count outcome → count ≡ length fs → IsRefusal j.command.takes (in_force_behind false fs) whole beyond rest left → DidAll j ready fs t → Stops j ready fs whole beyond rest left t outcome
-stops_refused j ready fs whole beyond rest left t count is.Done e c r p = absurd e
-stops_refused j ready fs whole beyond rest left t count (is.Refused words) e c r p = (r, e ∙ ap not_built_text c, p)
-stops_refused j ready fs whole beyond rest left t count is.ReadFault e c r p = absurd e
-stops_refused j ready fs whole beyond rest left t count is.WriteFault e c r p = absurd e
-stops_refused j ready fs whole beyond rest left t count is.CoreFault e c r p = absurd e
-stops_refused j ready fs whole beyond rest left t count (is.Memory x) e c r p = all_front j ready fs t p
-
--- The play ends, the bytes of this call being `more`, and of them `kept` held.
-stop : (j : Job) (old mid now : Meaning) (left0 left1 left2 before w1 w2 : Option (List ℕ)) (r1 r2 : Reading) (count : ℕ) (more kept beyond : List ℕ) (outcome : Outcome)
-    → (s : GoesOn j old mid left0 left1 before w1 r1 count) → left1 ≡ prepend_known more left2 → more ≡ kept ++ beyond → r2 ≡ grown r1 kept → r2.taken ≤ most_bytes → r1.taken + length more ≤ most_bytes + 1
-    → Stops j old.ready s.frames (s.got ++ kept) beyond r2.held left2 (traces before w2 old.fed now.fed) outcome → DoesSource j old.ready left0 left2 (traces before w2 old.fed now.fed) outcome
-stop j old mid now left0 left1 left2 before w1 w2 r1 r2 count more kept beyond outcome s from parts grows limit within stops =
-    let all : (s.got ++ kept) ++ beyond ≡ s.got ++ more = append_assoc s.got kept beyond ∙ ap (λ (x : List ℕ). s.got ++ x) (sym parts) in
-    record {
-      frames = s.frames;
-      whole = s.got ++ kept;
-      beyond = beyond;
-      rest = r2.held;
-      from = s.from ∙ ap (prepend_known s.got) from ∙ prepend-prepend s.got more left2 ∙ ap (λ (x : List ℕ). prepend_known x left2) (sym all);
-      within = omega (arith, ap (λ (x : List ℕ). length x) all, length-append s.got more, s.taken, within);
-      counts = omega (arith, limit, ap (λ (r : Reading). r.taken) grows, length-append s.got kept, s.taken);
-      carried = carried_on j.command.takes s.frames s.got kept r1 r2 s.carried grows;
-      stops = stops;
-    }
-
-none_beyond : (more : List ℕ) → more ≡ more ++ []
-none_beyond more = sym (append-nil more)
-
-pub done : (j : Job) (old mid : Meaning) (left0 left1 left2 before w1 : Option (List ℕ)) (r1 r2 : Reading) (count f1 f2 : ℕ)
-    → GoesOn j old mid left0 left1 before w1 r1 count → Takes most_bytes r1 r2 (record { left = left1; faults = f1 }) (record { left = left2; faults = f2 }) (Ok None) → r2.taken ≤ most_bytes
-    → DoesSource j old.ready left0 left2 (traces before w1 old.fed mid.fed) is.Done
-done j old mid left0 left1 left2 before w1 r1 r2 count f1 f2 s t limit =
-    stop j old mid mid left0 left1 left2 before w1 w1 r1 r2 count t.got t.got [] is.Done s t.from (none_beyond t.got) t.answered.0 limit t.within
-    (refl, t.answered.1, t.answered.2, played_all j old mid left0 left1 before w1 r1 count s)
-
-pub ended : (j : Job) (old mid : Meaning) (left0 left1 left2 before w1 : Option (List ℕ)) (r1 r2 : Reading) (count f1 f2 : ℕ) (end : StreamEnd) (outcome : Outcome)
-    → GoesOn j old mid left0 left1 before w1 r1 count → Takes most_bytes r1 r2 (record { left = left1; faults = f1 }) (record { left = left2; faults = f2 }) (Err end) → r2.taken ≤ most_bytes → Becomes end count outcome
-    → DoesSource j old.ready left0 left2 (traces before w1 old.fed mid.fed) outcome
-ended j old mid left0 left1 left2 before w1 r1 r2 count f1 f2 streams.ReadFault outcome s t limit b =
-    subst (λ (o : Outcome). DoesSource j old.ready left0 left2 (traces before w1 old.fed mid.fed) o) (sym b)
-    (stop j old mid mid left0 left1 left2 before w1 w1 r1 r2 count t.got t.got [] is.ReadFault s t.from (none_beyond t.got) t.answered.0 limit t.within (refl, t.answered.1, played_all j old mid left0 left1 before w1 r1 count s))
-ended j old mid left0 left1 left2 before w1 r1 r2 count f1 f2 streams.SyncLost outcome s t limit b =
-    stop j old mid mid left0 left1 left2 before w1 w1 r1 r2 count t.got t.got [] outcome s t.from (none_beyond t.got) t.answered.0 limit t.within
-    (stops_refused j old.ready s.frames (s.got ++ t.got) [] r2.held left2 (traces before w1 old.fed mid.fed) count outcome b s.counted
-    (inl (refl, lost_some r2.held t.answered.1, λ more. lost_stuck j.command.takes (in_force_behind false s.frames) r2.held more t.answered.1)) (played_all j old mid left0 left1 before w1 r1 count s))
-ended j old mid left0 left1 left2 before w1 r1 r2 count f1 f2 streams.Truncated outcome s t limit b =
-    stop j old mid mid left0 left1 left2 before w1 w1 r1 r2 count t.got t.got [] outcome s t.from (none_beyond t.got) t.answered.0 limit t.within
-    (stops_refused j old.ready s.frames (s.got ++ t.got) [] r2.held left2 (traces before w1 old.fed mid.fed) count outcome b s.counted
-    (inr (inl (refl, t.answered.1, t.answered.2, t.answered.3))) (played_all j old mid left0 left1 before w1 r1 count s))
-ended j old mid left0 left1 left2 before w1 r1 r2 count f1 f2 streams.TooLarge outcome s t limit b =
-    let a = t.answered in
-    stop j old mid mid left0 left1 left2 before w1 w1 r1 r2 count t.got a.0 (a.1 ∷ []) outcome s t.from a.2 a.3 limit t.within
-    (stops_refused j old.ready s.frames (s.got ++ a.0) (a.1 ∷ []) r2.held left2 (traces before w1 old.fed mid.fed) count outcome b s.counted
-    (inr (inr (a.1, refl, a.4, omega (arith, a.5, ap (λ (r : Reading). r.taken) a.3, length-append s.got a.0, s.taken)))) (played_all j old mid left0 left1 before w1 r1 count s))
-ended j old mid left0 left1 left2 before w1 r1 r2 count f1 f2 (streams.Memory e) outcome s t limit b =
-    let a = t.answered in
-    subst (λ (o : Outcome). DoesSource j old.ready left0 left2 (traces before w1 old.fed mid.fed) o) (sym b)
-    (stop j old mid mid left0 left1 left2 before w1 w1 r1 r2 count t.got a.0 a.1 (is.Memory e) s t.from a.2 a.3 limit t.within (all_front j old.ready s.frames (traces before w1 old.fed mid.fed) (played_all j old mid left0 left1 before w1 r1 count s)))
+none_front : (c : Command) (fs : List Frame) (before w1 w2 : Option (List ℕ)) (fed0 fed1 fed2 : ℕ) → WroteAll c fs (traces before w1 fed0 fed1) → w2 ≡ w1 → fed2 ≤ fed1 + fed_for c.feeds 1 → WroteFront c fs (traces before w2 fed0 fed2)
+none_front c fs before w1 w2 fed0 fed1 fed2 w same fed =
+    let xs = c.output fs in
+    record { written = (length xs, same ∙ w.written ∙ ap (λ (x : List ℕ). append_known before x) (sym (take_all (length xs) xs (omega arith)))); fed = omega (arith, fed, w.fed, fed_more c.feeds (length fs)) }
 
 -- a front of the bytes of one more frame
-front_more : (j : Job) (ready mid_ready : Option Running) (fs : List Frame) (f : Frame) (before w1 w2 : Option (List ℕ)) → mid_ready ≡ step_through j ready fs → w1 ≡ append_known before (bytes_through j ready fs)
-    → WrotePart w1 w2 (j.bytes mid_ready f) → WrotePart before w2 (bytes_through j ready (fs ++ f ∷ []))
-front_more j ready mid_ready fs f before w1 w2 e one part =
-    let xs = bytes_through j ready fs in
-    let ys = j.bytes mid_ready f in (
-      length xs + part.0,
-      output_front j ready mid_ready fs f before w1 w2 (take part.0 ys) one part.1 ∙ ap (λ (x : List ℕ). append_known before x) (sym (take-append-add xs ys part.0) ∙ ap (λ (x : List ℕ). take (length xs + part.0) x) (output_more j ready mid_ready fs f e)),
-    )
-
--- a part of a frame was written
-partly : (j : Job) (old mid now : Meaning) (left0 left1 left2 before w1 w2 : Option (List ℕ)) (r1 r2 : Reading) (count n f1 f2 : ℕ) (body : List ℕ)
-    → (s : GoesOn j old mid left0 left1 before w1 r1 count) → (t : Takes most_bytes r1 r2 (record { left = left1; faults = f1 }) (record { left = left2; faults = f2 }) (Ok (Some n))) → r2.taken ≤ most_bytes
-    → body ≡ take n (drop 3 r2.held) → DidPart j (ltb 0 count) body mid now w1 w2 → (outcome : Outcome)
-    → ((fs : List Frame) (whole beyond rest : List ℕ) → DidFront j old.ready fs (traces before w2 old.fed now.fed) → Stops j old.ready fs whole beyond rest left2 (traces before w2 old.fed now.fed) outcome)
-    → DoesSource j old.ready left0 left2 (traces before w2 old.fed now.fed) outcome
-partly j old mid now left0 left1 left2 before w1 w2 r1 r2 count n f1 f2 body s t limit body-is p outcome stops =
-    let here = frame_here r2 n body t.answered.1 body-is in
-    let built = subst (λ (o : Bool). IsBuilt j.command.takes o p.frame body) (in_force_is s.frames count s.counted) p.built in
-    let fs = s.frames ++ p.frame ∷ [] in
-    let whole = s.got ++ t.got in
-    let carried = carries_push j.command.takes false whole s.frames r2.held p.frame body (drop (3 + n) r2.held) (carried_on j.command.takes s.frames s.got t.got r1 r2 s.carried t.answered.0) here.0 here.1 built in
-    let front = front_more j old.ready mid.ready s.frames p.frame before w1 w2 s.ready s.output p.written in
+part_front : (j : Job) (gives : GivesOutput j) (old mid now : Meaning) (left0 left1 before w1 w2 : Option (List ℕ)) (r : Reading) (s : GoesOn j old mid left0 left1 before w1 r) (f : Frame) → DidPart j s.given f mid now w1 w2
+    → WroteFront j.command (s.given ++ f ∷ []) (traces before w2 old.fed now.fed)
+part_front j gives old mid now left0 left1 before w1 w2 r s f d =
+    let xs = bytes_through j [] old.ready s.given in
+    let ys = j.bytes s.given mid.ready f in
+    let fs = s.given ++ f ∷ [] in
+    let count = d.written.0 in
+    let whole : xs ++ ys ≡ j.command.output fs = output_more j old.ready mid.ready s.given f s.ready ∙ gives old.ready fs (takes_push j.command [] s.given f s.takes d.takes) in
     record {
-      frames = fs;
-      whole = whole;
-      beyond = [];
-      rest = drop (3 + n) r2.held;
-      from = s.from ∙ ap (prepend_known s.got) t.from ∙ prepend-prepend s.got t.got left2 ∙ ap (λ (x : List ℕ). prepend_known x left2) (none_beyond whole);
-      within = omega (arith, length-append whole [], length-append s.got t.got, s.taken, t.within);
-      counts = omega (arith, limit, ap (λ (r : Reading). r.taken) t.answered.0, length-append s.got t.got, s.taken);
-      carried = carried;
-      stops = stops fs whole [] (drop (3 + n) r2.held) (record { written = front; fed = omega (arith, p.fed, s.fed, fed_more j.command.feeds count, fed_later j.command.feeds (count + 1), ap (λ (n : ℕ). fed_for j.command.feeds (n + 1)) (more_counted count s.frames p.frame s.counted)) });
+      written = (length xs + count, output_front j old.ready s.given before w1 w2 (take count ys) s.output d.written.1 ∙ ap (λ (x : List ℕ). append_known before x) (sym (take-append-add xs ys count) ∙ ap (λ (x : List ℕ). take (length xs + count) x) whole));
+      fed = omega (arith, d.fed, s.fed, fed_more j.command.feeds (length s.given), fed_later j.command.feeds (length s.given + 1), ap (λ (k : ℕ). fed_for j.command.feeds (k + 1)) (length-append s.given (f ∷ [])));
     }
 
-pub stopped : (j : Job) (old mid now : Meaning) (left0 left1 left2 before w1 w2 : Option (List ℕ)) (r1 r2 : Reading) (count n f1 f2 : ℕ) (body : List ℕ) (end : FrameEnd) (outcome : Outcome)
-    → GoesOn j old mid left0 left1 before w1 r1 count → Takes most_bytes r1 r2 (record { left = left1; faults = f1 }) (record { left = left2; faults = f2 }) (Ok (Some n)) → r2.taken ≤ most_bytes
-    → body ≡ take n (drop 3 r2.held) → Handles j (ltb 0 count) body mid now w1 w2 (Err end) → BecomesOf end count outcome → DoesSource j old.ready left0 left2 (traces before w2 old.fed now.fed) outcome
-stopped j old mid now left0 left1 left2 before w1 w2 r1 r2 count n f1 f2 body frames.NotBuilt outcome s t limit body-is p b =
-    let here = frame_here r2 n body t.answered.1 body-is in
-    let none : (frame : Frame) → IsBuilt j.command.takes (in_force_behind false s.frames) frame body → ⊥ = λ frame h. p.0 frame (subst (λ (o : Bool). IsBuilt j.command.takes o frame body) (sym (in_force_is s.frames count s.counted)) h) in
-    stop j old mid now left0 left1 left2 before w1 w2 r1 r2 count t.got t.got [] outcome s t.from (none_beyond t.got) t.answered.0 limit t.within
-    (stops_refused j old.ready s.frames (s.got ++ t.got) [] r2.held left2 (traces before w2 old.fed now.fed) count outcome b s.counted
-    (inl (refl, omega (arith, t.answered.1.long), λ more. unbuilt_stuck j.command.takes (in_force_behind false s.frames) r2.held body (drop (3 + n) r2.held) more here.0 here.1 none))
-    (record { written = p.2 ∙ s.output; fed = p.1 ∙ fed_all j.command.feeds _ _ _ _ s.fed s.counted }))
-stopped j old mid now left0 left1 left2 before w1 w2 r1 r2 count n f1 f2 body frames.WriteFault outcome s t limit body-is p b =
-    subst (λ (o : Outcome). DoesSource j old.ready left0 left2 (traces before w2 old.fed now.fed) o) (sym b)
-    (partly j old mid now left0 left1 left2 before w1 w2 r1 r2 count n f1 f2 body s t limit body-is p is.WriteFault (λ fs whole beyond rest front. front))
-stopped j old mid now left0 left1 left2 before w1 w2 r1 r2 count n f1 f2 body frames.CoreFault outcome s t limit body-is p b =
-    let here = frame_here r2 n body t.answered.1 body-is in
-    subst (λ (o : Outcome). DoesSource j old.ready left0 left2 (traces before w2 old.fed now.fed) o) (sym b)
-    (stop j old mid now left0 left1 left2 before w1 w2 r1 r2 count t.got t.got [] is.CoreFault s t.from (none_beyond t.got) t.answered.0 limit t.within
-    ((p.0.0, body, drop (3 + n) r2.held, here.0, here.1, subst (λ (o : Bool). IsBuilt j.command.takes o p.0.0 body) (in_force_is s.frames count s.counted) p.0.1), record { written = p.2 ∙ s.output; fed = p.1 ∙ fed_all j.command.feeds _ _ _ _ s.fed s.counted }))
-stopped j old mid now left0 left1 left2 before w1 w2 r1 r2 count n f1 f2 body (frames.Memory e) outcome s t limit body-is p b =
-    subst (λ (o : Outcome). DoesSource j old.ready left0 left2 (traces before w2 old.fed now.fed) o) (sym b)
-    (elim p [
-      | inl part ↦ partly j old mid now left0 left1 left2 before w1 w2 r1 r2 count n f1 f2 body s t limit body-is part (is.Memory e) (λ fs whole beyond rest front. front)
-      | inr none ↦ stop j old mid now left0 left1 left2 before w1 w2 r1 r2 count t.got t.got [] (is.Memory e) s t.from (none_beyond t.got) t.answered.0 limit t.within
-          (nothing_more j old mid now left0 left1 before w1 w2 r1 count s none)
-    ])
+-- how the command ended, by how it ends on all bytes of the source
+stop : (c : Command) (got : List ℕ) (given : List Frame) (r1 r2 : Reading) (left0 left1 left2 : Option (List ℕ)) (f1 f2 : ℕ) (answer : Result (Option Event) StreamFault) (t : Traces) (outcome : Outcome) → left0 ≡ prepend_known got left1
+    → (p : Reads got given r1 r2 (record { left = left1; faults = f1 }) (record { left = left2; faults = f2 }) answer)
+    → ((rest : List ℕ) → (p.ended ≡ true → rest ≡ []) → Ends c ((got ++ p.more) ++ rest) (got ++ p.more) t outcome) → DoesSource c left0 left2 t outcome
+stop c got given r1 r2 left0 left1 left2 f1 f2 answer t outcome from p ends = record {
+  taken = got ++ p.more;
+  from = from ∙ ap (prepend_known got) p.from ∙ prepend-prepend got p.more left2;
+  within = p.within;
+  ended = p.ended;
+  at_end = p.at_end;
+  ends = ends;
+}
 
--- the measure of the loop
-pub falls : (r1 r2 r3 : Reading) (n f1 f2 : ℕ) (left1 left2 : Option (List ℕ)) → r2.taken ≤ most_bytes → Takes most_bytes r1 r2 (record { left = left1; faults = f1 }) (record { left = left2; faults = f2 }) (Ok (Some n))
-    → r3 ≡ record r2 { held = drop (3 + n) r2.held } → most_bytes - r3.taken + length r3.held < most_bytes - r1.taken + length r1.held
-falls r1 r2 r3 n f1 f2 left1 left2 limit t passed =
-    omega (arith, limit, t.answered.1.long, ap (λ (r : Reading). r.taken) passed, ap (λ (r : Reading). length r.held) passed, length-drop (3 + n) r2.held, ap (λ (r : Reading). r.taken) t.answered.0, ap (λ (r : Reading). length r.held) t.answered.0, length-append r1.held t.got)
+pub done : (j : Job) (gives : GivesOutput j) (old mid : Meaning) (left0 left1 left2 before w1 : Option (List ℕ)) (r1 r2 : Reading) (f1 f2 : ℕ)
+    → (s : GoesOn j old mid left0 left1 before w1 r1) → Reads s.got s.given r1 r2 (record { left = left1; faults = f1 }) (record { left = left2; faults = f2 }) (Ok None)
+    → DoesSource j.command left0 left2 (traces before w1 old.fed mid.fed) is.Done
+done j gives old mid left0 left1 left2 before w1 r1 r2 f1 f2 s p =
+    stop j.command s.got s.given r1 r2 left0 left1 left2 f1 f2 (Ok None) (traces before w1 old.fed mid.fed) is.Done s.from p
+    (λ rest e. (s.given, record { script = p.answers rest e; takes = s.takes }, wrote_all j gives old mid left0 left1 before w1 r1 s))
 
--- what is held was taken, and each frame took three bytes at least
-pub bounds : (r1 r2 r3 : Reading) (count n f1 f2 : ℕ) (left1 left2 : Option (List ℕ)) → r2.taken ≤ most_bytes → Takes most_bytes r1 r2 (record { left = left1; faults = f1 }) (record { left = left2; faults = f2 }) (Ok (Some n))
-    → r3 ≡ record r2 { held = drop (3 + n) r2.held } → length r1.held ≤ r1.taken → 3 * count + length r1.held ≤ r1.taken
-    → (r3.taken ≤ most_bytes) × (length r3.held ≤ r3.taken) × (3 * (count + 1) + length r3.held ≤ r3.taken)
-bounds r1 r2 r3 count n f1 f2 left1 left2 limit t passed held many =
-    let taken3 : r3.taken ≡ r2.taken = ap (λ (r : Reading). r.taken) passed in
-    let held3 : length r3.held ≡ length r2.held - (3 + n) = ap (λ (r : Reading). length r.held) passed ∙ length-drop (3 + n) r2.held in
-    let taken2 : r2.taken ≡ r1.taken + length t.got = ap (λ (r : Reading). r.taken) t.answered.0 in
-    let held2 : length r2.held ≡ length r1.held + length t.got = ap (λ (r : Reading). length r.held) t.answered.0 ∙ length-append r1.held t.got in
-    (omega (arith, limit), omega (arith, held), omega (arith, many, t.answered.1.long))
+-- all frames are taken, and the mark is a refusal
+ends_mark : (c : Command) (text taken : List ℕ) (fs : List Frame) (mark : Mark) (r : Option Refusal) (t : Traces) (outcome : Outcome) → IsRefusedBy r outcome → refusal_of_mark mark ≡ r → IsScript text fs mark → TakesAll c [] fs → WroteAll c fs t → Ends c text taken t outcome
+ends_mark c text taken fs mark r t is.Done b m s h w = absurd b
+ends_mark c text taken fs mark r t (is.Refused words) b m s h w = (fs, b.0, inr (record { mark = mark; script = s; takes = h; refuses = m ∙ b.1 }), b.2, w)
+ends_mark c text taken fs mark r t is.ReadFault b m s h w = absurd b
+ends_mark c text taken fs mark r t is.WriteFault b m s h w = absurd b
+ends_mark c text taken fs mark r t is.CoreFault b m s h w = absurd b
+ends_mark c text taken fs mark r t (is.Memory e) b m s h w = (fs, record { later = []; of_file = subst (λ (x : List Frame). HasFrames text x) (sym (append-nil fs)) (frames_of_script text fs mark s); takes = h }, all_front c fs t w)
+ends_mark c text taken fs mark r t is.TooLarge b m s h w = absurd b
+
+pub ended : (j : Job) (gives : GivesOutput j) (old mid : Meaning) (left0 left1 left2 before w1 : Option (List ℕ)) (r1 r2 : Reading) (f1 f2 : ℕ) (fault : StreamFault) (outcome : Outcome)
+    → (s : GoesOn j old mid left0 left1 before w1 r1) → Reads s.got s.given r1 r2 (record { left = left1; faults = f1 }) (record { left = left2; faults = f2 }) (Err fault) → Becomes fault outcome
+    → DoesSource j.command left0 left2 (traces before w1 old.fed mid.fed) outcome
+ended j gives old mid left0 left1 left2 before w1 r1 r2 f1 f2 fault outcome s p b =
+    stop j.command s.got s.given r1 r2 left0 left1 left2 f1 f2 (Err fault) (traces before w1 old.fed mid.fed) outcome s.from p (λ rest e. by_fault fault rest (p.answers rest e) b)
+  where
+    t : Traces
+    t = traces before w1 old.fed mid.fed
+
+    w : WroteAll j.command s.given (traces before w1 old.fed mid.fed)
+    w = wrote_all j gives old mid left0 left1 before w1 r1 s
+
+    by_fault : (f : StreamFault) (rest : List ℕ) → Answers ((s.got ++ p.more) ++ rest) (s.got ++ p.more) s.given (Err f) → Becomes f outcome → Ends j.command ((s.got ++ p.more) ++ rest) (s.got ++ p.more) (traces before w1 old.fed mid.fed) outcome
+    by_fault streams.ReadFault rest a b =
+        subst (λ (o : Outcome). Ends j.command ((s.got ++ p.more) ++ rest) (s.got ++ p.more) (traces before w1 old.fed mid.fed) o) (sym b) (s.given, a.0, record { script = a.1; takes = s.takes }, a.2, w)
+    by_fault streams.TooLarge rest a b =
+        subst (λ (o : Outcome). Ends j.command ((s.got ++ p.more) ++ rest) (s.got ++ p.more) (traces before w1 old.fed mid.fed) o) (sym b) (s.given, record { script = a; takes = s.takes }, w)
+    by_fault (streams.Loas (loas.SyncLost byte)) rest a b = ends_mark j.command ((s.got ++ p.more) ++ rest) (s.got ++ p.more) s.given (SyncLost byte) _ (traces before w1 old.fed mid.fed) outcome b refl a s.takes w
+    by_fault (streams.Loas (loas.Truncated byte)) rest a b = ends_mark j.command ((s.got ++ p.more) ++ rest) (s.got ++ p.more) s.given (Truncated byte) _ (traces before w1 old.fed mid.fed) outcome b refl a s.takes w
+    by_fault (streams.Loas (loas.Memory x)) rest a b = absurd a
+    by_fault (streams.Mux frame x) rest a b = ends_mark j.command ((s.got ++ p.more) ++ rest) (s.got ++ p.more) s.given (BadElement frame x) _ (traces before w1 old.fed mid.fed) outcome b refl a s.takes w
+    by_fault (streams.Memory x) rest a b =
+        subst (λ (o : Outcome). Ends j.command ((s.got ++ p.more) ++ rest) (s.got ++ p.more) (traces before w1 old.fed mid.fed) o) (sym b) (s.given, record { later = a.0; of_file = a.1; takes = s.takes }, all_front j.command s.given (traces before w1 old.fed mid.fed) w)
+
+-- the frames up to one more are the first of the source
+first_more : (c : Command) (got rest : List ℕ) (given : List Frame) (f : Frame) (r : Reading) → HasRead got (given ++ f ∷ []) r → TakesAll c [] given → Takes c given f → TakesFirst c (got ++ rest) (given ++ f ∷ [])
+first_more c got rest given f r read h k =
+    let a = read_frames got rest (given ++ f ∷ []) r read in
+    record { later = a.0; of_file = a.1; takes = takes_push c [] given f h k }
+
+first_less : (c : Command) (got rest : List ℕ) (given : List Frame) (f : Frame) (r : Reading) → HasRead got (given ++ f ∷ []) r → TakesAll c [] given → TakesFirst c (got ++ rest) given
+first_less c got rest given f r read h =
+    let a = read_frames got rest (given ++ f ∷ []) r read in
+    record { later = f ∷ a.0; of_file = subst (λ (x : List Frame). HasFrames (got ++ rest) x) (append_assoc given (f ∷ []) a.0) a.1; takes = h }
+
+-- a frame is refused
+ends_frame : (c : Command) (text taken : List ℕ) (fs : List Frame) (f : Frame) (later : List Frame) (r : Refusal) (t : Traces) (outcome : Outcome) → IsRefusedBy (Some r) outcome → HasFrames text (fs ++ f ∷ later) → TakesAll c [] fs → c.Refuses fs f r → WroteAll c fs t → Ends c text taken t outcome
+ends_frame c text taken fs f later r t is.Done b s h k w = absurd b
+ends_frame c text taken fs f later r t (is.Refused words) b s h k w =
+    let same : r ≡ b.0 = cc b.1 in
+    (fs, r, inl (record { frame = f; later = later; of_file = s; takes = h; refuses = k }), b.2 ∙ ap refusal_text (sym same), w)
+ends_frame c text taken fs f later r t is.ReadFault b s h k w = absurd b
+ends_frame c text taken fs f later r t is.WriteFault b s h k w = absurd b
+ends_frame c text taken fs f later r t is.CoreFault b s h k w = absurd b
+ends_frame c text taken fs f later r t (is.Memory e) b s h k w = (fs, record { later = f ∷ later; of_file = s; takes = h }, all_front c fs t w)
+ends_frame c text taken fs f later r t is.TooLarge b s h k w = absurd b
+
+pub stopped : (j : Job) (gives : GivesOutput j) (old mid now : Meaning) (left0 left1 left2 before w1 w2 : Option (List ℕ)) (r1 r2 : Reading) (f1 f2 : ℕ) (event : Event) (mux : MuxConfig) (end : FrameEnd) (outcome : Outcome)
+    → (s : GoesOn j old mid left0 left1 before w1 r1) → (p : Reads s.got s.given r1 r2 (record { left = left1; faults = f1 }) (record { left = left2; faults = f2 }) (Ok (Some event)))
+    → (n : Next (s.got ++ p.more) s.given r2 event mux) → Handles j s.given n.frame mid now w1 w2 (Err end) → BecomesOf end outcome
+    → DoesSource j.command left0 left2 (traces before w2 old.fed now.fed) outcome
+stopped j gives old mid now left0 left1 left2 before w1 w2 r1 r2 f1 f2 event mux end outcome s p n d b =
+    stop j.command s.got s.given r1 r2 left0 left1 left2 f1 f2 (Ok (Some event)) (traces before w2 old.fed now.fed) outcome s.from p (λ rest e. by_end end rest d b)
+  where
+    w : WroteAll j.command s.given (traces before w1 old.fed mid.fed)
+    w = wrote_all j gives old mid left0 left1 before w1 r1 s
+
+    by_end : (x : FrameEnd) (rest : List ℕ) → Handles j s.given n.frame mid now w1 w2 (Err x) → BecomesOf x outcome → Ends j.command ((s.got ++ p.more) ++ rest) (s.got ++ p.more) (traces before w2 old.fed now.fed) outcome
+    by_end (frames.Refused refusal) rest d b =
+        let a = read_frames (s.got ++ p.more) rest (s.given ++ n.frame ∷ []) r2 n.read in
+        let of_file = subst (λ (x : List Frame). HasFrames ((s.got ++ p.more) ++ rest) x) (append_assoc s.given (n.frame ∷ []) a.0) a.1 in
+        ends_frame j.command ((s.got ++ p.more) ++ rest) (s.got ++ p.more) s.given n.frame a.0 refusal (traces before w2 old.fed now.fed) outcome b of_file s.takes d.0 (same_all j.command s.given before w1 w2 old.fed mid.fed now.fed w d.2 d.1)
+    by_end frames.WriteFault rest d b =
+        subst (λ (o : Outcome). Ends j.command ((s.got ++ p.more) ++ rest) (s.got ++ p.more) (traces before w2 old.fed now.fed) o) (sym b)
+        (s.given ++ n.frame ∷ [], first_more j.command (s.got ++ p.more) rest s.given n.frame r2 n.read s.takes d.takes, part_front j gives old mid now left0 left1 before w1 w2 r1 s n.frame d)
+    by_end frames.CoreFault rest d b =
+        subst (λ (o : Outcome). Ends j.command ((s.got ++ p.more) ++ rest) (s.got ++ p.more) (traces before w2 old.fed now.fed) o) (sym b)
+        (s.given, n.frame, first_more j.command (s.got ++ p.more) rest s.given n.frame r2 n.read s.takes d.0, same_all j.command s.given before w1 w2 old.fed mid.fed now.fed w d.2 d.1)
+    by_end (frames.Memory x) rest d b =
+        subst (λ (o : Outcome). Ends j.command ((s.got ++ p.more) ++ rest) (s.got ++ p.more) (traces before w2 old.fed now.fed) o) (sym b)
+        (elim d [
+          | inl part ↦ (s.given ++ n.frame ∷ [], first_more j.command (s.got ++ p.more) rest s.given n.frame r2 n.read s.takes part.takes, part_front j gives old mid now left0 left1 before w1 w2 r1 s n.frame part)
+          | inr none ↦ (s.given, first_less j.command (s.got ++ p.more) rest s.given n.frame r2 n.read s.takes, none_front j.command s.given before w1 w2 old.fed mid.fed now.fed w none.written none.fed)
+        ])
 
 -- a core fault comes of a core fault
-pub becomes_core : (end : FrameEnd) (count : ℕ) (outcome : Outcome) → BecomesOf end count outcome → outcome ≡ is.CoreFault → end ≡ frames.CoreFault
-becomes_core frames.NotBuilt count is.CoreFault b e = absurd b
-becomes_core frames.NotBuilt count is.Done b e = absurd b
-becomes_core frames.NotBuilt count (is.Refused words) b e = absurd cc
-becomes_core frames.NotBuilt count is.ReadFault b e = absurd b
-becomes_core frames.NotBuilt count is.WriteFault b e = absurd b
-becomes_core frames.NotBuilt count (is.Memory x) b e = absurd cc
-becomes_core frames.WriteFault count outcome b e = absurd cc
-becomes_core frames.CoreFault count outcome b e = refl
-becomes_core (frames.Memory x) count outcome b e = absurd cc
+pub becomes_core : (end : FrameEnd) (outcome : Outcome) → BecomesOf end outcome → outcome ≡ is.CoreFault → end ≡ frames.CoreFault
+becomes_core (frames.Refused r) is.CoreFault b e = absurd b
+becomes_core (frames.Refused r) is.Done b e = absurd b
+becomes_core (frames.Refused r) (is.Refused words) b e = absurd cc
+becomes_core (frames.Refused r) is.ReadFault b e = absurd b
+becomes_core (frames.Refused r) is.WriteFault b e = absurd b
+becomes_core (frames.Refused r) (is.Memory x) b e = absurd cc
+becomes_core (frames.Refused r) is.TooLarge b e = absurd b
+becomes_core frames.WriteFault outcome b e = absurd cc
+becomes_core frames.CoreFault outcome b e = refl
+becomes_core (frames.Memory x) outcome b e = absurd cc

@@ -1,10 +1,4 @@
-pub mod Frames
-pub mod Pieces
-pub mod Found
-pub mod BuiltFrames
-pub mod Runs
 pub mod Handing
-pub mod FrameSteps
 pub mod Going
 pub mod Endings
 pub mod Lines

@@ -1,30 +1,27 @@
 -- What the top call answers, from how the command ended.
-use Rattle.std.proofs.Common.{◌≡◌, ℕ, ◌<◌, List, [], ◌∷◌, ◌++◌, length, take, Some, None, Option, Bool, true, false, refl, sym, ap, ◌∙◌, subst, arith, inl, inr}
-use Rattle.std.specs.Prelude.{◌≢◌, codes, if◌then◌else◌}
+use Rattle.std.proofs.Common.{◌≡◌, ℕ, ◌<◌, List, [], ◌∷◌, ◌++◌, length, take, Some, None, Option, Bool, true, false, refl, sym, ap, ◌∙◌, subst, append_assoc, arith, inl, inr}
+use Rattle.std.specs.Prelude.{◌≢◌, ◌⊎◌, codes, if◌then◌else◌}
 use Rattle.std.specs.Str.{bytes_eq}
 use Rattle.std.specs.Io.KnownBytes.{append_known}
-use Rattle.std.proofs.lemmas.List.{take_all}
+use Rattle.std.proofs.lemmas.List.{take_all, append-nil}
 use Rattle.core_iface.specs.Decoding.{Definitions}
-use Rattle.xheaac_tool.specs.Carrying.{Choice, Carries, IsLongest}
-use Rattle.xheaac_tool.specs.Commands.{Command}
-use Rattle.xheaac_tool.specs.Jobs.{Job, GivesOutput, bytes_through}
+use Rattle.tool_text.specs.declared.refusal.Refusal.{Refusal}
+use Rattle.au_stream.specs.Frames.{Frame}
+use Rattle.au_stream.specs.Script.{Mark, End, TooLarge, HasFrames}
+use Rattle.au_stream.proofs.Scripts.{frames_of_script, frames_of_front}
+use Rattle.xheaac_tool.specs.Commands.{Command, TakesAll}
 use Rattle.xheaac_tool.specs.Causes.{Counts, Caused}
 use Rattle.xheaac_tool.specs.Handing.{WrotePart}
-use Rattle.xheaac_tool.specs.Ending.{Traces, DoesFile, Ends, WroteAll, WroteFront}
-use Rattle.xheaac_tool.specs.Ran.{Notes, Noted, Reports, NotedFront, NotesOf, CausesOf, RunsFile, command_of, status_of, text_of}
-use Rattle.xheaac_tool.specs.Reading.{most_bytes}
-use Rattle.xheaac_tool.specs.Texts.{read_text, write_text, core_text, memory_text}
-use Rattle.xheaac_tool.specs.Showing.{show_job}
-use Rattle.xheaac_tool.specs.Stepping.{play_job}
-use Rattle.xheaac_tool.specs.Outputs.{show_gives, play_gives}
+use Rattle.xheaac_tool.specs.Ending.{Traces, DoesFile, Ends, TakesFirst, Passes, IsRefused, WroteAll, WroteFront}
+use Rattle.xheaac_tool.specs.Ran.{Notes, Noted, Reports, IsTextOfCommand, NotedFront, NotesOf, CausesOf, RunsFile, command_of, status_of, text_of}
+use Rattle.xheaac_tool.specs.Texts.{read_text, write_text, core_text, memory_text, large_text}
 use Rattle.xheaac_tool.specs.declared.words.Asked.{Asked}
 use Rattle.xheaac_tool.specs.Asked.{asked}
 use Rattle.xheaac_tool.specs.Words.{Case, case_of, file_in, file_of, Show, Play}
-use Rattle.xheaac_tool.specs.declared.frame.Frame.{Frame}
 use Rattle.xheaac_tool.specs.declared.outcome.Outcome.{Outcome}
 use Rattle.xheaac_tool.specs.declared.outcome.Outcome.TheVariants as is
-use Rattle.xheaac_tool.proofs.Endings.{told, wrote_front, played_first}
-use Rattle.xheaac_tool.proofs.Going.{fed_later}
+use Rattle.xheaac_tool.proofs.Endings.{told}
+use Rattle.xheaac_tool.proofs.Going.{all_front, append-none}
 
 -- ---- statuses and outcomes
 
@@ -35,6 +32,7 @@ at_zero is.ReadFault e = absurd (omega arith)
 at_zero is.WriteFault e = absurd (omega arith)
 at_zero is.CoreFault e = absurd (omega arith)
 at_zero (is.Memory error) e = absurd (omega arith)
+at_zero is.TooLarge e = absurd (omega arith)
 
 at_one : (o : Outcome) → status_of o ≡ 1 → (text : List ℕ) × (o ≡ is.Refused text)
 at_one is.Done e = absurd (omega arith)
@@ -43,6 +41,7 @@ at_one is.ReadFault e = absurd (omega arith)
 at_one is.WriteFault e = absurd (omega arith)
 at_one is.CoreFault e = absurd (omega arith)
 at_one (is.Memory error) e = absurd (omega arith)
+at_one is.TooLarge e = absurd (omega arith)
 
 pub at_three : (o : Outcome) → status_of o ≡ 3 → o ≡ is.ReadFault
 at_three is.Done e = absurd (omega arith)
@@ -51,6 +50,7 @@ at_three is.ReadFault e = refl
 at_three is.WriteFault e = absurd (omega arith)
 at_three is.CoreFault e = absurd (omega arith)
 at_three (is.Memory error) e = absurd (omega arith)
+at_three is.TooLarge e = absurd (omega arith)
 
 pub at_four : (o : Outcome) → status_of o ≡ 4 → o ≡ is.WriteFault
 at_four is.Done e = absurd (omega arith)
@@ -59,6 +59,7 @@ at_four is.ReadFault e = absurd (omega arith)
 at_four is.WriteFault e = refl
 at_four is.CoreFault e = absurd (omega arith)
 at_four (is.Memory error) e = absurd (omega arith)
+at_four is.TooLarge e = absurd (omega arith)
 
 pub at_five : (o : Outcome) → status_of o ≡ 5 → o ≡ is.CoreFault
 at_five is.Done e = absurd (omega arith)
@@ -67,55 +68,79 @@ at_five is.ReadFault e = absurd (omega arith)
 at_five is.WriteFault e = absurd (omega arith)
 at_five is.CoreFault e = refl
 at_five (is.Memory error) e = absurd (omega arith)
+at_five is.TooLarge e = absurd (omega arith)
+
+at_seven : (o : Outcome) → status_of o ≡ 7 → o ≡ is.TooLarge
+at_seven is.Done e = absurd (omega arith)
+at_seven (is.Refused text) e = absurd (omega arith)
+at_seven is.ReadFault e = absurd (omega arith)
+at_seven is.WriteFault e = absurd (omega arith)
+at_seven is.CoreFault e = absurd (omega arith)
+at_seven (is.Memory error) e = absurd (omega arith)
+at_seven is.TooLarge e = refl
 
 -- a status other than want of memory is the outcome's, and its text was noted
-pub told_status : (n : Notes) (o : Outcome) (s k : ℕ) → Reports n (text_of o) (status_of o) s → s ≡ k → k < 6 → (status_of o ≡ k) × Noted n (text_of o)
-told_status n o s k (inl (a, noted)) e lt = (sym a ∙ e, noted)
-told_status n o s k (inr (a, part)) e lt = absurd (omega (arith, a, e, lt))
+pub told_status : (n : Notes) (o : Outcome) (s k : ℕ) → Reports n (text_of o) (status_of o) s → s ≡ k → k ≢ 6 → (status_of o ≡ k) × Noted n (text_of o)
+told_status n o s k (inl (a, noted)) e ne = (sym a ∙ e, noted)
+told_status n o s k (inr (a, part)) e ne = absurd (ne (sym e ∙ a))
 
 -- the answer 0 is that all is done
 pub done_outcome : (n : Notes) (o : Outcome) (s : ℕ) → Reports n (text_of o) (status_of o) s → s ≡ 0 → o ≡ is.Done
-done_outcome n o s r e = at_zero o (told_status n o s 0 r e (omega arith)).0
+done_outcome n o s r e = at_zero o (told_status n o s 0 r e (λ same. omega arith)).0
 
 pub read_outcome : (n : Notes) (o : Outcome) (s : ℕ) → Reports n (text_of o) (status_of o) s → s ≡ 3 → o ≡ is.ReadFault
-read_outcome n o s r e = at_three o (told_status n o s 3 r e (omega arith)).0
+read_outcome n o s r e = at_three o (told_status n o s 3 r e (λ same. omega arith)).0
 
 pub write_outcome : (n : Notes) (o : Outcome) (s : ℕ) → Reports n (text_of o) (status_of o) s → s ≡ 4 → o ≡ is.WriteFault
-write_outcome n o s r e = at_four o (told_status n o s 4 r e (omega arith)).0
+write_outcome n o s r e = at_four o (told_status n o s 4 r e (λ same. omega arith)).0
 
 pub core_outcome : (n : Notes) (o : Outcome) (s : ℕ) → Reports n (text_of o) (status_of o) s → s ≡ 5 → o ≡ is.CoreFault
-core_outcome n o s r e = at_five o (told_status n o s 5 r e (omega arith)).0
+core_outcome n o s r e = at_five o (told_status n o s 5 r e (λ same. omega arith)).0
+
+pub large_outcome : (n : Notes) (o : Outcome) (s : ℕ) → Reports n (text_of o) (status_of o) s → s ≡ 7 → o ≡ is.TooLarge
+large_outcome n o s r e = at_seven o (told_status n o s 7 r e (λ same. omega arith)).0
 
 -- ---- what was written
 
-carries_first : (k : Choice) (o : Bool) (text : List ℕ) (fs more : List Frame) (rest : List ℕ) → Carries k o text (fs ++ more) rest → (between : List ℕ) × Carries k o text fs between
-carries_first k o text [] more rest c = (text, refl)
-carries_first k o text (frame ∷ fs) more rest c = let m = carries_first k true c.1 fs more rest c.5 in (m.0, (c.0, c.1, c.2, c.3, c.4, m.1))
+-- the frames of the file of which a front was written
+record Front (c : Command) (text : List ℕ) (t : Traces) (o : Outcome) : Type 0 where
+  frames : List Frame
+  takes : TakesFirst c text frames
+  wrote : WroteFront c frames t
+  noted : IsTextOfCommand c text frames (text_of o) ⊎ (text_of o ≡ [])
 
-front_of_all : (c : Command) (frames : List Frame) (t : Traces) → WroteAll c frames t → WroteFront c frames t
-front_of_all c frames t w =
-    let xs = c.output frames in
-    record { written = (length xs, w.written ∙ ap (λ (x : List ℕ). append_known t.written_before x) (sym (take_all (length xs) xs (omega arith)))); fed = omega (arith, w.fed, fed_later c.feeds (length frames)) }
+-- all frames of a script
+all_first : (c : Command) (text : List ℕ) (fs : List Frame) (mark : Mark) → Passes c text fs mark → TakesFirst c text fs
+all_first c text fs mark p = record { later = []; of_file = subst (λ (x : List Frame). HasFrames text x) (sym (append-nil fs)) (frames_of_script text fs mark p.script); takes = p.takes }
 
-front_of_first : (j : Job) (gives : GivesOutput j) (text : List ℕ) (fs more : List Frame) (rest : List ℕ) (t : Traces) → Carries j.command.takes false text (fs ++ more) rest → WroteAll j.command fs t → WroteFront j.command (fs ++ more) t
-front_of_first j gives text fs more rest t c w =
-    let m = carries_first j.command.takes false text fs more rest c in
-    let xs = bytes_through j None fs in
-    let whole : j.command.output fs ≡ take (length xs) xs = sym (gives None text fs m.0 m.1) ∙ sym (take_all (length xs) xs (omega arith)) in
-    wrote_front j gives None text fs more rest t c (record { written = (length xs, w.written ∙ ap (λ (x : List ℕ). append_known t.written_before x) whole); fed = omega (arith, w.fed, fed_later j.command.feeds (length fs)) })
+refused_first : (c : Command) (text : List ℕ) (fs : List Frame) (r : Refusal) → IsRefused c text fs r → TakesFirst c text fs
+refused_first c text fs r (inl x) = record { later = x.frame ∷ x.later; of_file = x.of_file; takes = x.takes }
+refused_first c text fs r (inr x) = all_first c text fs x.mark (record { script = x.script; takes = x.takes })
 
 -- however the command ended, a front of the output was written
-front_of : (j : Job) (gives : GivesOutput j) (text : List ℕ) (remains : Option (List ℕ)) (t : Traces) (o : Outcome) → DoesFile j.command text remains t o → (frames : List Frame) × (rest : List ℕ) × IsLongest j.command.takes (take most_bytes text) frames rest × WroteFront j.command frames t
-front_of j gives text remains t is.Done p = let s = p.ends in (s.0, [], s.1.longest, front_of_all j.command s.0 t s.2)
-front_of j gives text remains t (is.Refused words) p = let s = p.ends in (s.0, s.1, s.2.longest, front_of_all j.command s.0 t s.4)
-front_of j gives text remains t is.ReadFault p =
+front_of : (c : Command) (text : List ℕ) (remains : Option (List ℕ)) (t : Traces) (o : Outcome) → DoesFile c text remains t o → Front c text t o
+front_of c text remains t is.Done p = let s = p.ends in record { frames = s.0; takes = all_first c text s.0 End s.1; wrote = all_front c s.0 t s.2; noted = inr refl }
+front_of c text remains t (is.Refused words) p =
+    let s = p.ends in
+    record { frames = s.0; takes = refused_first c text s.0 s.1 s.2; wrote = all_front c s.0 t s.4; noted = inl (inr (inr (inr (inr (inr (s.1, s.2, s.3)))))) }
+front_of c text remains t is.ReadFault p =
     let s = p.ends in
     let k = told text p.taken remains p.from in
-    let f = played_first j.command.takes text p.taken k.0 s.0 s.1 k.2 s.4 s.2.carried in
-    (s.0 ++ f.0, f.1, f.2, front_of_first j gives (take most_bytes text) s.0 f.0 f.1 t f.2.carried s.5)
-front_of j gives text remains t is.WriteFault p = p.ends
-front_of j gives text remains t is.CoreFault p = let s = p.ends in (s.0 ++ s.1, s.2, s.3, front_of_first j gives (take most_bytes text) s.0 s.1 s.2 t s.3.carried s.5)
-front_of j gives text remains t (is.Memory error) p = p.ends
+    let f = frames_of_front p.taken k.0 s.0 s.1 s.2.script s.3 in
+    record { frames = s.0; takes = record { later = f.0; of_file = subst (λ (x : List ℕ). HasFrames x (s.0 ++ f.0)) (sym k.2) f.1; takes = s.2.takes }; wrote = all_front c s.0 t s.4; noted = inl (inr (inl refl)) }
+front_of c text remains t is.WriteFault p = let s = p.ends in record { frames = s.0; takes = s.1; wrote = s.2; noted = inl (inr (inr (inl refl))) }
+front_of c text remains t is.CoreFault p =
+    let s = p.ends in
+    record { frames = s.0; takes = first_of c text s.0 s.1 s.2; wrote = all_front c s.0 t s.3; noted = inl (inr (inr (inr (inl refl)))) }
+  where
+    front_takes : (c : Command) (before fs more : List Frame) → TakesAll c before (fs ++ more) → TakesAll c before fs
+    front_takes c before [] more h = tt
+    front_takes c before (g ∷ fs) more h = (h.0, front_takes c (before ++ g ∷ []) fs more h.1)
+
+    first_of : (c : Command) (text : List ℕ) (fs : List Frame) (f : Frame) → TakesFirst c text (fs ++ f ∷ []) → TakesFirst c text fs
+    first_of c text fs f h = record { later = f ∷ h.later; of_file = subst (λ (x : List Frame). HasFrames text x) (append_assoc fs (f ∷ []) h.later) h.of_file; takes = front_takes c [] fs (f ∷ []) h.takes }
+front_of c text remains t (is.Memory error) p = let s = p.ends in record { frames = s.0; takes = s.1; wrote = s.2; noted = inl (inl refl) }
+front_of c text remains t is.TooLarge p = let s = p.ends in record { frames = s.0; takes = all_first c text s.0 TooLarge s.1; wrote = all_front c s.0 t s.2; noted = inl (inr (inr (inr (inr (inl refl))))) }
 
 -- whatever the status, note grew by a front of the outcome's text
 part_noted : (n : Notes) (o : Outcome) (wanted s : ℕ) → Reports n (text_of o) wanted s → WrotePart n.before n.after (text_of o)
@@ -124,50 +149,44 @@ part_noted n o wanted s (inl (a, (inr (part, risen)))) = part
 part_noted n o wanted s (inr (a, part)) = part
 
 -- and that is a text of the command
-noted_front : (j : Job) (gives : GivesOutput j) (text : List ℕ) (remains : Option (List ℕ)) (t : Traces) (n : Notes) (o : Outcome) (p : DoesFile j.command text remains t o) → WrotePart n.before n.after (text_of o) → NotedFront n (length (front_of j gives text remains t o p).0)
-unfolding front_of
-noted_front j gives text remains t n is.Done p part = (memory_text, inl refl, (0, part.1 ∙ ap (λ (x : List ℕ). append_known n.before x) (take_all part.0 [] (omega arith))))
-noted_front j gives text remains t n (is.Refused words) p part = let ends = p.ends in (words, inr (inr (inr (inr ends.3))), part)
-noted_front j gives text remains t n is.ReadFault p part = (read_text, inr (inl refl), part)
-noted_front j gives text remains t n is.WriteFault p part = (write_text, inr (inr (inl refl)), part)
-noted_front j gives text remains t n is.CoreFault p part = (core_text, inr (inr (inr (inl refl))), part)
-noted_front j gives text remains t n (is.Memory error) p part = (memory_text, inl refl, part)
+noted_front : (c : Command) (text : List ℕ) (t : Traces) (n : Notes) (o : Outcome) (f : Front c text t o) → WrotePart n.before n.after (text_of o) → NotedFront c text f.frames n
+noted_front c text t n o f part = elim f.noted [
+  | inl known ↦ (text_of o, known, part)
+  | inr none ↦ (memory_text, inl refl, (0, part.1 ∙ ap (λ (x : List ℕ). append_known n.before (take part.0 x)) none ∙ ap (λ (x : List ℕ). append_known n.before x) (take_all part.0 [] (omega arith))))
+]
 
 -- ---- the records of the top call
 
-pub runs_file : (j : Job) (gives : GivesOutput j) (text : List ℕ) (remains : Option (List ℕ)) (t : Traces) (n : Notes) (o : Outcome) (s : ℕ) → DoesFile j.command text remains t o → Reports n (text_of o) (status_of o) s → RunsFile j.command text remains t n s
-runs_file j gives text remains t n o s p r = record {
+pub runs_file : (c : Command) (text : List ℕ) (remains : Option (List ℕ)) (t : Traces) (n : Notes) (o : Outcome) (s : ℕ) → DoesFile c text remains t o → Reports n (text_of o) (status_of o) s → RunsFile c text remains t n s
+runs_file c text remains t n o s p r = record {
   taken = p.taken;
   from = p.from;
   within = p.within;
-  done = λ e. subst (λ (x : Outcome). Ends j.command text p.taken t x) (done_outcome n o s r e) p.ends;
+  done = λ e. subst (λ (x : Outcome). Ends c text p.taken t x) (done_outcome n o s r e) p.ends;
   refused = λ e.
-      let k = told_status n o s 1 r e (omega arith) in
+      let k = told_status n o s 1 r e (λ same. omega arith) in
       let w = at_one o k.0 in
-      let ends = subst (λ (x : Outcome). Ends j.command text p.taken t x) w.1 p.ends in
+      let ends = subst (λ (x : Outcome). Ends c text p.taken t x) w.1 p.ends in
       let noted = subst (λ (x : Outcome). Noted n (text_of x)) w.1 k.1 in
       (ends.0, ends.1, ends.2, subst (λ (x : List ℕ). Noted n x) ends.3 noted, ends.4);
-  read = λ e. subst (λ (x : Outcome). Ends j.command text p.taken t x) (read_outcome n o s r e) p.ends;
-  write = λ e. subst (λ (x : Outcome). Ends j.command text p.taken t x) (write_outcome n o s r e) p.ends;
-  core = λ e. subst (λ (x : Outcome). Ends j.command text p.taken t x) (core_outcome n o s r e) p.ends;
-  memory = λ e. let f = front_of j gives text remains t o p in (f.0, f.1, f.2, noted_front j gives text remains t n o p (part_noted n o (status_of o) s r), f.3);
+  read = λ e. subst (λ (x : Outcome). Ends c text p.taken t x) (read_outcome n o s r e) p.ends;
+  write = λ e. subst (λ (x : Outcome). Ends c text p.taken t x) (write_outcome n o s r e) p.ends;
+  core = λ e. subst (λ (x : Outcome). Ends c text p.taken t x) (core_outcome n o s r e) p.ends;
+  memory = λ e. let f = front_of c text remains t o p in (f.frames, f.takes, noted_front c text t n o f (part_noted n o (status_of o) s r), f.wrote);
+  large = λ e. subst (λ (x : Outcome). Ends c text p.taken t x) (large_outcome n o s r e) p.ends;
 }
-
--- the same of the command of a case
-runs_case : (d : Definitions) (case : Case) (text : List ℕ) (remains : Option (List ℕ)) (t : Traces) (n : Notes) (o : Outcome) (s : ℕ) → DoesFile (command_of d case) text remains t o → Reports n (text_of o) (status_of o) s → RunsFile (command_of d case) text remains t n s
-runs_case d (Show file) text remains t n o s p r = runs_file (show_job d) (show_gives d) text remains t n o s p r
-runs_case d (Play file) text remains t n o s p r = runs_file (play_job d) (play_gives d) text remains t n o s p r
 
 pub runs_known : (d : Definitions) (known case : Case) (text : List ℕ) (remains : Option (List ℕ)) (t : Traces) (n : Notes) (o : Outcome) (s : ℕ) → known ≡ case → DoesFile (command_of d known) text remains t o → Reports n (text_of o) (status_of o) s
     → RunsFile (command_of d case) text remains t n s
-runs_known d known case text remains t n o s e p r = runs_case d case text remains t n o s (subst (λ (k : Case). DoesFile (command_of d k) text remains t o) e p) r
+runs_known d known case text remains t n o s e p r = runs_file (command_of d case) text remains t n o s (subst (λ (k : Case). DoesFile (command_of d k) text remains t o) e p) r
 
 pub notes_of : (n : Notes) (o : Outcome) (s : ℕ) → (o ≡ is.Done → (n.after ≡ n.before) × (n.faults_after ≡ n.faults_before)) → Reports n (text_of o) (status_of o) s → NotesOf n s
 notes_of n o s quiet r = record {
   done = λ e. quiet (done_outcome n o s r e);
-  read = λ e. subst (λ (x : Outcome). Noted n (text_of x)) (read_outcome n o s r e) (told_status n o s 3 r e (omega arith)).1;
-  write = λ e. subst (λ (x : Outcome). Noted n (text_of x)) (write_outcome n o s r e) (told_status n o s 4 r e (omega arith)).1;
-  core = λ e. subst (λ (x : Outcome). Noted n (text_of x)) (core_outcome n o s r e) (told_status n o s 5 r e (omega arith)).1;
+  read = λ e. subst (λ (x : Outcome). Noted n (text_of x)) (read_outcome n o s r e) (told_status n o s 3 r e (λ same. omega arith)).1;
+  write = λ e. subst (λ (x : Outcome). Noted n (text_of x)) (write_outcome n o s r e) (told_status n o s 4 r e (λ same. omega arith)).1;
+  core = λ e. subst (λ (x : Outcome). Noted n (text_of x)) (core_outcome n o s r e) (told_status n o s 5 r e (λ same. omega arith)).1;
+  large = λ e. subst (λ (x : Outcome). Noted n (text_of x)) (large_outcome n o s r e) (told_status n o s 7 r e (λ same. omega arith)).1;
 }
 
 no_fault : (before now : Counts) (o : Outcome) → status_of o < 3 → Caused before now o → now ≡ before
@@ -177,27 +196,30 @@ no_fault before now is.ReadFault lt c = absurd (omega arith)
 no_fault before now is.WriteFault lt c = absurd (omega arith)
 no_fault before now is.CoreFault lt c = absurd (omega arith)
 no_fault before now (is.Memory error) lt c = c
+no_fault before now is.TooLarge lt c = c
 
 pub causes_of : (n : Notes) (before now : Counts) (o : Outcome) (s : ℕ) → Caused before now o → Reports n (text_of o) (status_of o) s → CausesOf before now s
 causes_of n before now o s c r = record {
-  none = λ lt. let k = told_status n o s s r refl (omega (arith, lt)) in no_fault before now o (omega (arith, k.0, lt)) c;
+  none = λ lt. let k = told_status n o s s r refl (λ same. omega (arith, lt, same)) in no_fault before now o (omega (arith, k.0, lt)) c;
   read = λ e. subst (λ (x : Outcome). Caused before now x) (read_outcome n o s r e) c;
   write = λ e. subst (λ (x : Outcome). Caused before now x) (write_outcome n o s r e) c;
   core = λ e. subst (λ (x : Outcome). Caused before now x) (core_outcome n o s r e) c;
+  large = λ e. subst (λ (x : Outcome). Caused before now x) (large_outcome n o s r e) c;
 }
 
 -- every status but that of the usage
-pub play_status : (n : Notes) (o : Outcome) (s : ℕ) → Reports n (text_of o) (status_of o) s → (s < 7) × (s ≢ 2)
+pub play_status : (n : Notes) (o : Outcome) (s : ℕ) → Reports n (text_of o) (status_of o) s → (s < 8) × (s ≢ 2)
 play_status n o s (inr (a, part)) = (omega (arith, a), λ e. omega (arith, a, e))
 play_status n o s (inl (a, noted)) = by_outcome o a
   where
-    by_outcome : (o : Outcome) → s ≡ status_of o → (s < 7) × (s ≢ 2)
+    by_outcome : (o : Outcome) → s ≡ status_of o → (s < 8) × (s ≢ 2)
     by_outcome is.Done e = (omega arith, λ two. omega arith)
     by_outcome (is.Refused text) e = (omega arith, λ two. omega arith)
     by_outcome is.ReadFault e = (omega arith, λ two. omega arith)
     by_outcome is.WriteFault e = (omega arith, λ two. omega arith)
     by_outcome is.CoreFault e = (omega arith, λ two. omega arith)
     by_outcome (is.Memory error) e = (omega arith, λ two. omega arith)
+    by_outcome is.TooLarge e = (omega arith, λ two. omega arith)
 
 abbrev some_case : Case → Option Case
 some_case c = Some c

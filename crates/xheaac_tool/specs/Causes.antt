@@ -18,3 +18,4 @@ Caused before now is.ReadFault = Rose before.shelf now.shelf × (now.out ≡ bef
 Caused before now is.WriteFault = (now.shelf ≡ before.shelf) × Rose before.out now.out × (now.core ≡ before.core)
 Caused before now is.CoreFault = (now.shelf ≡ before.shelf) × (now.out ≡ before.out) × Rose before.core now.core
 Caused before now (is.Memory e) = now ≡ before
+Caused before now is.TooLarge = now ≡ before

@@ -1,15 +1,24 @@
 -- What a command makes of the frames of a stream.
-use Rattle.std.specs.Prelude.{ℕ, Bool, true, false, List}
-use Rattle.xheaac_tool.specs.declared.frame.Frame.{Frame}
-use Rattle.xheaac_tool.specs.Carrying.{Choice}
+use Rattle.std.specs.Prelude.{ℕ, Bool, true, false, List, [], ◌∷◌, ◌++◌}
+use Rattle.tool_text.specs.declared.refusal.Refusal.{Refusal}
+use Rattle.au_stream.specs.Frames.{Frame}
 
-pub record Command : Type 0 where
-  -- the canonical frames that it takes; it refuses the first other one
-  pub takes : Choice
-  -- what it writes for frames
+pub record Command : Type 1 where
+  -- why it refuses a frame, behind the frames before it
+  pub Refuses : List Frame → Frame → Refusal → Type 0
+  -- what it writes for frames that it takes
   pub output : List Frame → List ℕ
   -- whether it feeds each frame to the core
   pub feeds : Bool
+
+-- it refuses the frame for no reason
+abbrev pub Takes : Command → List Frame → Frame → Type 0
+Takes c before f = (r : Refusal) → c.Refuses before f r → ⊥
+
+-- it takes each of these frames, behind those before it
+abbrev pub TakesAll : Command → List Frame → List Frame → Type 0
+TakesAll c before [] = Unit {0}
+TakesAll c before (f ∷ fs) = Takes c before f × TakesAll c (before ++ f ∷ []) fs
 
 -- how many units are fed for so many frames
 abbrev pub fed_for : Bool → ℕ → ℕ

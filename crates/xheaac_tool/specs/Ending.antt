@@ -1,19 +1,18 @@
 -- What a command on one file writes, and how it ends, by the bytes of the file.
-use Rattle.std.specs.Prelude.{◌≡◌, ℕ, ◌+◌, ◌<◌, ◌≤◌, ◌⊎◌, List, [], ◌++◌, length, take, nat_lt, if◌then◌else◌}
+use Rattle.std.specs.Prelude.{◌≡◌, ℕ, ◌+◌, ◌≤◌, ◌⊎◌, List, [], ◌∷◌, ◌++◌, length, nat_lt, if◌then◌else◌}
 use Rattle.std.specs.declared.option.Option.{Option}
-use Rattle.std.specs.Prelude.{Some}
+use Rattle.std.specs.Prelude.{Some, None}
 use Rattle.std.specs.Io.KnownBytes.{prepend_known, append_known}
-use Rattle.std.specs.List.{AllByRecursion}
-use Rattle.xheaac_tool.specs.declared.frame.Frame.{Frame}
+use Rattle.loas.specs.declared.fault.LoasFault.TheVariants as loas
+use Rattle.tool_text.specs.declared.refusal.Refusal.{Refusal}
+use Rattle.tool_text.specs.Refusal.{refusal_text}
+use Rattle.tool_text.specs.Faults.{refusal_of_loas, refusal_of_mux}
+use Rattle.au_stream.specs.Frames.{Frame}
+use Rattle.au_stream.specs.Script.{most_bytes, Mark, End, SyncLost, BadElement, Truncated, TooLarge, HasFrames, IsScript, IsOpen}
 use Rattle.xheaac_tool.specs.declared.outcome.Outcome.{Outcome}
 use Rattle.xheaac_tool.specs.declared.outcome.Outcome.TheVariants as is
-use Rattle.xheaac_tool.specs.Framing.{IsPartial}
-use Rattle.xheaac_tool.specs.Reading.{most_bytes}
-use Rattle.xheaac_tool.specs.Carrying.{IsLongest}
-use Rattle.xheaac_tool.specs.Commands.{Command, fed_for}
-use Rattle.xheaac_tool.specs.Carrying.{Choice}
+use Rattle.xheaac_tool.specs.Commands.{Command, Takes, TakesAll, fed_for}
 use Rattle.xheaac_tool.specs.Handing.{WrotePart}
-use Rattle.xheaac_tool.specs.Texts.{not_built_text}
 
 -- what was written on out, and how many units the core was fed, before the command and behind it
 pub record Traces : Type 0 where
@@ -32,29 +31,55 @@ pub record WroteFront (c : Command) (frames : List Frame) (t : Traces) : Type 0 
   pub written : WrotePart t.written_before t.written_after (c.output frames)
   pub fed : t.fed_after ≤ t.fed_before + fed_for c.feeds (length frames + 1)
 
--- The file is frames to its end, and is not too long.
-pub record IsWhole (takes : Choice) (text : List ℕ) (frames : List Frame) : Type 0 where
-  pub longest : IsLongest takes (take most_bytes text) frames []
-  pub within : length text ≤ most_bytes
+-- the refusal that a mark is, if it is one
+abbrev pub refusal_of_mark : Mark → Option Refusal
+refusal_of_mark End = None
+refusal_of_mark (SyncLost byte) = refusal_of_loas (loas.SyncLost byte)
+refusal_of_mark (BadElement frame fault) = refusal_of_mux frame fault
+refusal_of_mark (Truncated byte) = refusal_of_loas (loas.Truncated byte)
+refusal_of_mark TooLarge = None
 
--- Behind the frames something remains, or the file is too long.
-pub record IsBroken (takes : Choice) (text : List ℕ) (frames : List Frame) (rest : List ℕ) : Type 0 where
-  pub longest : IsLongest takes (take most_bytes text) frames rest
-  pub more : (0 < length rest) ⊎ (most_bytes < length text)
+-- The command takes these frames of the file, and refuses the next one.
+pub record RefusesFrame (c : Command) (text : List ℕ) (taken : List Frame) (r : Refusal) : Type 0 where
+  pub frame : Frame
+  pub later : List Frame
+  pub of_file : HasFrames text (taken ++ frame ∷ later)
+  pub takes : TakesAll c [] taken
+  pub refuses : c.Refuses taken frame r
 
--- How the command ends. The frames are the most that the counted bytes of the file carry; at a read fault, the most that
--- the bytes taken so far carry.
+-- The command takes all frames of the file, and its mark is a refusal.
+pub record RefusesMark (c : Command) (text : List ℕ) (taken : List Frame) (r : Refusal) : Type 0 where
+  pub mark : Mark
+  pub script : IsScript text taken mark
+  pub takes : TakesAll c [] taken
+  pub refuses : refusal_of_mark mark ≡ Some r
+
+-- The file is refused behind these frames, for that reason.
+abbrev pub IsRefused : Command → List ℕ → List Frame → Refusal → Type 0
+IsRefused c text taken r = RefusesFrame c text taken r ⊎ RefusesMark c text taken r
+
+-- The script of the bytes is these frames, all of which the command takes, and that mark.
+pub record Passes (c : Command) (text : List ℕ) (frames : List Frame) (mark : Mark) : Type 0 where
+  pub script : IsScript text frames mark
+  pub takes : TakesAll c [] frames
+
+-- The command takes these frames, which are the first of the file.
+pub record TakesFirst (c : Command) (text : List ℕ) (frames : List Frame) : Type 0 where
+  pub later : List Frame
+  pub of_file : HasFrames text (frames ++ later)
+  pub takes : TakesAll c [] frames
+
+-- How the command ends on a file with these bytes, of which some were taken.
 abbrev pub Ends : Command → List ℕ → List ℕ → Traces → Outcome → Type 0
-Ends c text taken t is.Done = (frames : List Frame) × IsWhole c.takes text frames × WroteAll c frames t
-Ends c text taken t (is.Refused words) =
-    (frames : List Frame) × (rest : List ℕ) × IsBroken c.takes text frames rest × (words ≡ not_built_text (length frames)) × WroteAll c frames t
-Ends c text taken t is.ReadFault =
-    (frames : List Frame) × (rest : List ℕ) × IsLongest c.takes taken frames rest × IsPartial rest × (length taken ≤ most_bytes) × WroteAll c frames t
-Ends c text taken t is.WriteFault = (frames : List Frame) × (rest : List ℕ) × IsLongest c.takes (take most_bytes text) frames rest × WroteFront c frames t
--- the frame at which the core failed is the first of the others
-Ends c text taken t is.CoreFault =
-    (played others : List Frame) × (rest : List ℕ) × IsLongest c.takes (take most_bytes text) (played ++ others) rest × (0 < length others) × WroteAll c played t
-Ends c text taken t (is.Memory e) = (frames : List Frame) × (rest : List ℕ) × IsLongest c.takes (take most_bytes text) frames rest × WroteFront c frames t
+Ends c text taken t is.Done = (frames : List Frame) × Passes c text frames End × WroteAll c frames t
+Ends c text taken t (is.Refused words) = (frames : List Frame) × (r : Refusal) × IsRefused c text frames r × (words ≡ refusal_text r) × WroteAll c frames t
+-- the script of the bytes taken may go on
+Ends c text taken t is.ReadFault = (frames : List Frame) × (mark : Mark) × Passes c taken frames mark × IsOpen mark × WroteAll c frames t
+Ends c text taken t is.WriteFault = (frames : List Frame) × TakesFirst c text frames × WroteFront c frames t
+-- the core failed at the frame behind those that were written
+Ends c text taken t is.CoreFault = (frames : List Frame) × (failed : Frame) × TakesFirst c text (frames ++ failed ∷ []) × WroteAll c frames t
+Ends c text taken t (is.Memory e) = (frames : List Frame) × TakesFirst c text frames × WroteFront c frames t
+Ends c text taken t is.TooLarge = (frames : List Frame) × Passes c text frames TooLarge × WroteAll c frames t
 
 -- The command on a file with these bytes: what was taken of it, and how the command ended.
 pub record DoesFile (c : Command) (text : List ℕ) (remains : Option (List ℕ)) (t : Traces) (outcome : Outcome) : Type 0 where
@@ -67,6 +92,6 @@ pub record DoesFile (c : Command) (text : List ℕ) (remains : Option (List ℕ)
 abbrev pub remains_of : ℕ → ℕ → Option (List ℕ) → Option (List ℕ) → Option (List ℕ)
 remains_of begun_before begun_after left file = if nat_lt begun_before begun_after then left else file
 
--- this is so of each frame of the file
-abbrev pub OfFile : Choice → (Frame → Type 0) → List ℕ → Type 0
-OfFile takes serves text = (frames : List Frame) (rest : List ℕ) → IsLongest takes (take most_bytes text) frames rest → AllByRecursion serves frames
+-- this is so of each frame of the file that the command takes
+abbrev pub OfFile : Command → (Frame → Type 0) → List ℕ → Type 0
+OfFile c serves text = (before : List Frame) (f : Frame) → TakesFirst c text (before ++ f ∷ []) → serves f

@@ -1,11 +1,3 @@
-pub mod Framing
-pub mod Front
-pub mod Cut
-pub mod Reading
-pub mod Taking
-pub mod Faults
-pub mod Element
-pub mod Carrying
 pub mod Commands
 pub mod Jobs
 pub mod Output
@@ -16,8 +8,8 @@ pub mod Handing
 pub mod OneFrame
 pub mod Words
 pub mod Asked
-pub mod Ran
 pub mod Texts
 pub mod Causes
 pub mod Ending
 pub mod Doing
+pub mod Ran

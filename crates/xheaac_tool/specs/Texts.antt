@@ -1,8 +1,5 @@
 -- The texts that the program notes.
-use Rattle.std.specs.Prelude.{ℕ, List, ◌++◌, codes, decimal}
-
-abbrev pub not_built_text : ℕ → List ℕ
-not_built_text frame = codes "refused: frame " ++ (decimal frame ++ codes ": form not built\n")
+use Rattle.std.specs.Prelude.{ℕ, List, codes}
 
 abbrev pub usage_text : List ℕ
 usage_text = codes "usage: xheaac show|check|play FILE | start FILE FRAME | plan|splice|switch FILE POS [FILE POS]... | insert FILE K FADE TARGETS | strip FILE TAIL TARGETS | make START FRAMES\n"
@@ -18,3 +15,6 @@ core_text = codes "core fault\n"
 
 abbrev pub memory_text : List ℕ
 memory_text = codes "out of memory\n"
+
+abbrev pub large_text : List ℕ
+large_text = codes "too large\n"

@@ -4,45 +4,49 @@ ghost use Rattle.std.specs.Io.KnownBytes.{prepend_known};
 ghost use Rattle.outside.specs.Other.{all_but};
 ghost use Rattle.xheaac_tool.specs.Causes.{Caused};
 ghost use Rattle.xheaac_tool.specs.Ending.{DoesFile, OfFile, remains_of};
-ghost use Rattle.xheaac_tool.specs.Doing.{DoesSource, IsNotBegun, IsRefusedAt, Becomes, BecomesOf};
+ghost use Rattle.xheaac_tool.specs.Doing.{DoesSource, IsNotBegun, IsRefusedBy, Becomes, BecomesOf};
 
 use crate::frame_end::FrameEnd;
 use crate::outcome::Outcome;
-use crate::reader::FrameReader;
-use crate::stream_end::StreamEnd;
 use crate::task::Task;
-use crate::texts;
+use au_stream::{AuReader, StreamFault};
 use core_iface::Core;
 use outside::{DeviceFault, FromShelf, Shelf, Sink, Source};
-use std::alloc::Global;
+use std::alloc::{AllocError, Global};
+use tool_text::{Refusal, loas_refusal, mux_refusal, refusal_line};
 
-/// The refusal of the frame with that number.
-fn refused(alloc: Global, frame: u64) -> Outcome
-    ensures { IsRefusedAt frame result }
+/// The outcome of a refusal.
+fn refused(alloc: Global, refusal: Option<Refusal>) -> Outcome
+    ensures { IsRefusedBy refusal result }
 {
-    match texts::not_built(alloc, frame) {
+    let Some(refusal) = refusal else {
+        return Outcome::Memory(AllocError);
+    };
+    match refusal_line(alloc, &refusal) {
         Ok(text) => Outcome::Refused(text),
         Err(error) => Outcome::Memory(error),
     }
 }
 
 /// How the command ends where the stream has no next frame.
-fn ended_by(alloc: Global, end: StreamEnd, frame: u64) -> Outcome
-    ensures { Becomes end frame result }
+fn ended_by(alloc: Global, fault: StreamFault) -> Outcome
+    ensures { Becomes fault result }
 {
-    match end {
-        StreamEnd::ReadFault => Outcome::ReadFault,
-        StreamEnd::SyncLost | StreamEnd::Truncated | StreamEnd::TooLarge => refused(alloc, frame),
-        StreamEnd::Memory(error) => Outcome::Memory(error),
+    match fault {
+        StreamFault::ReadFault => Outcome::ReadFault,
+        StreamFault::TooLarge => Outcome::TooLarge,
+        StreamFault::Loas(fault) => refused(alloc, loas_refusal(&fault)),
+        StreamFault::Mux { frame, fault } => refused(alloc, mux_refusal(frame, &fault)),
+        StreamFault::Memory(error) => Outcome::Memory(error),
     }
 }
 
 /// How the command ends at a frame that was not handled.
-fn stopped_by(alloc: Global, end: FrameEnd, frame: u64) -> Outcome
-    ensures { BecomesOf end frame result }
+fn stopped_by(alloc: Global, end: FrameEnd) -> Outcome
+    ensures { BecomesOf end result }
 {
     match end {
-        FrameEnd::NotBuilt => refused(alloc, frame),
+        FrameEnd::Refused(refusal) => refused(alloc, Some(refusal)),
         FrameEnd::WriteFault => Outcome::WriteFault,
         FrameEnd::CoreFault => Outcome::CoreFault,
         FrameEnd::Memory(error) => Outcome::Memory(error),
@@ -57,7 +61,7 @@ pub fn run_source<T: Task, S: Source, K: Sink, C: Core>(
     core: &mut C,
 ) -> Outcome
     requires { (C.meaning core.old).fed ≤ 2 ^ 63 }
-    ensures does { DoesSource (T.job C.does) (C.meaning core.old).ready (S.left source.old) (S.left source.new)
+    ensures does { DoesSource (T.job C.does).command (S.left source.old) (S.left source.new)
         (record {
           written_before = K.written out.old;
           written_after = K.written out.new;
@@ -73,24 +77,25 @@ pub fn run_source<T: Task, S: Source, K: Sink, C: Core>(
     ensures calm_core { C.IsCalm core.old → C.IsCalm core.new }
     ensures calm_reads { S.calm source.old → result ≢ Outcome.ReadFault }
     ensures calm_writes { K.calm out.old → result ≢ Outcome.WriteFault }
-    ensures calm_decodes { (text : List ℕ) → S.left source.old ≡ Some text → OfFile (T.job C.does).command.takes (T.serves C.does) text → C.IsCalm core.old → result ≢ Outcome.CoreFault }
+    ensures calm_decodes { (text : List ℕ) → S.left source.old ≡ Some text → OfFile (T.job C.does).command (T.serves C.does) text → C.IsCalm core.old → result ≢ Outcome.CoreFault }
     ensures untouched { (T.job C.does).command.feeds ≡ false → core.new ≡ core.old }
     ensures no_core { (T.job C.does).command.feeds ≡ false → result ≢ Outcome.CoreFault }
 {
-    let mut reader = FrameReader::new(alloc);
-    let mut count: u64 = 0;
+    T::gives_output::<C>();
+    let mut reader = AuReader::new(alloc);
     'frames: loop {
-        let length = match reader.next(source) {
-            Ok(Some(length)) => length,
+        let event = match reader.next(alloc, source) {
+            Ok(Some(event)) => event,
             Ok(None) => return Outcome::Done,
-            Err(end) => return ended_by(alloc, end, count),
+            Err(fault) => return ended_by(alloc, fault),
         };
-        match T::handle(alloc, reader.body(length), count > 0, out, core) {
+        let Some(mux) = reader.mux() else {
+            unreachable!()
+        };
+        match T::handle(alloc, &event, mux, out, core) {
             Ok(()) => {}
-            Err(end) => return stopped_by(alloc, end, count),
+            Err(end) => return stopped_by(alloc, end),
         }
-        reader.pass(length);
-        count += 1;
     }
 }
 
@@ -104,7 +109,7 @@ fn run_begun<T: Task, H: Shelf, K: Sink, C: Core>(
 ) -> Outcome
     requires begun { id < H.begun shelf.old }
     requires fed { (C.meaning core.old).fed ≤ 2 ^ 63 }
-    ensures does { DoesSource (T.job C.does) (C.meaning core.old).ready (H.left shelf.old id) (H.left shelf.new id)
+    ensures does { DoesSource (T.job C.does).command (H.left shelf.old id) (H.left shelf.new id)
         (record {
           written_before = K.written out.old;
           written_after = K.written out.new;
@@ -123,7 +128,7 @@ fn run_begun<T: Task, H: Shelf, K: Sink, C: Core>(
     ensures calm_core { C.IsCalm core.old → C.IsCalm core.new }
     ensures calm_reads { H.calm shelf.old → result ≢ Outcome.ReadFault }
     ensures calm_writes { K.calm out.old → result ≢ Outcome.WriteFault }
-    ensures calm_decodes { (text : List ℕ) → H.left shelf.old id ≡ Some text → OfFile (T.job C.does).command.takes (T.serves C.does) text → C.IsCalm core.old → result ≢ Outcome.CoreFault }
+    ensures calm_decodes { (text : List ℕ) → H.left shelf.old id ≡ Some text → OfFile (T.job C.does).command (T.serves C.does) text → C.IsCalm core.old → result ≢ Outcome.CoreFault }
     ensures untouched { (T.job C.does).command.feeds ≡ false → core.new ≡ core.old }
     ensures no_core { (T.job C.does).command.feeds ≡ false → result ≢ Outcome.CoreFault }
 {
@@ -172,7 +177,7 @@ pub fn run_file<T: Task, H: Shelf, K: Sink, C: Core>(
     ensures calm_core { C.IsCalm core.old → C.IsCalm core.new }
     ensures calm_reads { H.calm shelf.old → IsSome (H.bytes shelf.old name.now) → result ≢ Outcome.ReadFault }
     ensures calm_writes { K.calm out.old → result ≢ Outcome.WriteFault }
-    ensures calm_decodes { (text : List ℕ) → H.bytes shelf.old name.now ≡ Some text → OfFile (T.job C.does).command.takes (T.serves C.does) text → C.IsCalm core.old → result ≢ Outcome.CoreFault }
+    ensures calm_decodes { (text : List ℕ) → H.bytes shelf.old name.now ≡ Some text → OfFile (T.job C.does).command (T.serves C.does) text → C.IsCalm core.old → result ≢ Outcome.CoreFault }
     ensures untouched { (T.job C.does).command.feeds ≡ false → core.new ≡ core.old }
     ensures no_core { (T.job C.does).command.feeds ≡ false → result ≢ Outcome.CoreFault }
 {

@@ -1,36 +1,23 @@
 // Why a frame was not handled.
 ghost use Rattle.std.specs.Prelude.{◌≡◌};
 
-use crate::frame::ElementFault;
 use core_iface::CoreFault;
 use outside::DeviceFault;
 use std::alloc::AllocError;
 use thiserror::Error;
+use tool_text::Refusal;
 
 /// Why a frame was not handled.
 #[derive(Debug, Drop, Error)]
 pub enum FrameEnd {
-    #[error("form not built")]
-    NotBuilt,
+    #[error("refused")]
+    Refused(Refusal),
     #[error("write fault")]
     WriteFault,
     #[error("core fault")]
     CoreFault,
     #[error("out of memory")]
     Memory(AllocError),
-}
-
-impl From<ElementFault> for FrameEnd {
-    ghost use Rattle.xheaac_tool.specs.OneFrame.{from_element};
-
-    ghost from_gives = { λ s e. e ≡ from_element s };
-
-    fn from(fault: ElementFault) -> FrameEnd {
-        match fault {
-            ElementFault::NotBuilt => FrameEnd::NotBuilt,
-            ElementFault::Memory(error) => FrameEnd::Memory(error),
-        }
-    }
 }
 
 impl From<CoreFault> for FrameEnd {

@@ -5,36 +5,23 @@
 //! their note, for a program that has its own.
 //!
 //! Beneath them, `command` goes over the frames of a file for any `task`: `played` and `shown` are the
-//! tasks. `reader` finds the frames of a LOAS stream (ISO/IEC 14496-3, AudioSyncStream) in what a source
-//! gives, and `canonical` and `element` read one AudioMuxElement.
+//! tasks.
 #![tactic(auto)]
 
-mod canonical;
 mod command;
-mod element;
-mod frame;
 mod frame_end;
-mod framing;
 mod give;
-mod laws;
 mod outcome;
 mod play;
 mod played;
-mod reader;
 mod show;
 mod shown;
-mod stream_end;
 mod task;
-mod texts;
 mod top;
 mod unit;
 mod words;
 
-pub use laws::one_longest;
 pub use outcome::Outcome;
 pub use play::do_play;
 pub use show::do_show;
 pub use top::run;
-
-#[cfg(test)]
-mod tests;

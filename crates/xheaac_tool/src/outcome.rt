@@ -16,4 +16,6 @@ pub enum Outcome {
     CoreFault,
     /// There was no memory: status 6.
     Memory(AllocError),
+    /// The input has more than 268,435,456 bytes, and nothing in them was refused: status 7.
+    TooLarge,
 }

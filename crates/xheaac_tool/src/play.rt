@@ -5,7 +5,7 @@ ghost use Rattle.xheaac_tool.specs.Causes.{Caused};
 ghost use Rattle.xheaac_tool.specs.Ending.{DoesFile, OfFile, remains_of};
 ghost use Rattle.xheaac_tool.specs.Doing.{IsNotBegun};
 ghost use Rattle.xheaac_tool.specs.Words.{texts, IsPlay, file_of};
-ghost use Rattle.xheaac_tool.specs.Output.{playing, IsServed, usac_of};
+ghost use Rattle.xheaac_tool.specs.Output.{playing, IsServed};
 
 use crate::command::run_file;
 use crate::outcome::Outcome;
@@ -72,7 +72,7 @@ pub fn do_play<H: Shelf, K: Sink, C: Core>(
     ensures calm_core { C.IsCalm core.old → C.IsCalm core.new }
     ensures calm_reads { H.calm shelf.old → IsSome (H.bytes shelf.old (file_of (texts words.now))) → result ≢ Outcome.ReadFault }
     ensures calm_writes { K.calm out.old → result ≢ Outcome.WriteFault }
-    ensures calm_decodes { (text : List ℕ) → H.bytes shelf.old (file_of (texts words.now)) ≡ Some text → OfFile (playing C.does).takes (λ frame. IsServed C.does (usac_of frame.opening)) text → C.IsCalm core.old → result ≢ Outcome.CoreFault }
+    ensures calm_decodes { (text : List ℕ) → H.bytes shelf.old (file_of (texts words.now)) ≡ Some text → OfFile (playing C.does) (IsServed C.does) text → C.IsCalm core.old → result ≢ Outcome.CoreFault }
 {
     run_file::<Play, _, _, _>(alloc, words[1].as_str(), shelf, out, core)
 }

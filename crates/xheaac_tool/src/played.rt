@@ -1,26 +1,27 @@
-// `play`, frame by frame: from the bytes of an element to the sample bytes on the output.
-ghost use Rattle.std.specs.Prelude.{◌≡◌, ◌≢◌, ◌++◌, ◌+◌, ◌-◌, ◌^◌, ◌≤◌, ◌<◌, true, false, Err, IfOk, IfErr, length, IsSome, OnOk, OnErr};
+// `play`, frame by frame: from an access unit to the sample bytes on the output.
+ghost use Rattle.std.specs.Prelude.{◌≡◌, ◌≢◌, ◌++◌, ◌+◌, ◌-◌, ◌^◌, ◌≤◌, ◌<◌, List, true, false, Err, length, IsSome, IsTrue, OnOk, OnErr, Some, None};
+ghost use Rattle.std.specs.Option.{option_copied};
 ghost use Rattle.causes.specs.Counts.{HasCause};
 ghost use Rattle.core_iface.specs.Answering.{stepped, emitted};
 ghost use Rattle.core_iface.specs.Faults.{has_failed};
 ghost use Rattle.layout.specs.Text.{bits_of};
-ghost use Rattle.xheaac_tool.specs.declared.frame.Frame.{Frame};
-ghost use Rattle.xheaac_tool.specs.Faults.{is_memory};
-ghost use Rattle.xheaac_tool.specs.Carrying.{IsBuilt, first_bit};
-ghost use Rattle.xheaac_tool.specs.Output.{IsServed, usac_of, opens_playable, play_takes};
+ghost use Rattle.au_stream.specs.Frames.{Frame, config_of};
+ghost use Rattle.au_stream.specs.Events.{IsEvent};
+ghost use Rattle.xheaac_tool.specs.Output.{first_bit, IsNotBuilt};
 ghost use Rattle.xheaac_tool.specs.Stepping.{set_up};
-ghost use Rattle.xheaac_tool.specs.OneFrame.{Decodes, IsOpenable};
+ghost use Rattle.xheaac_tool.specs.OneFrame.{Decodes, IsOpenable, ServesReset};
 
-use crate::canonical::read_frame;
-use crate::frame::{ElementFault, Frame};
 use crate::frame_end::FrameEnd;
 use crate::give::give_all;
 use crate::task::Task;
 use crate::unit::make_unit;
-use asc::Asc;
+use au_stream::Event;
 use core_iface::{Core, CoreFault, Unit, push_sample_bytes};
+use latm::MuxConfig;
 use outside::Sink;
 use std::alloc::Global;
+use tool_text::{Place, Reason, Refusal};
+use usac_cfg::UsacConfig;
 
 /// The frames of `play`.
 pub struct Play;
@@ -34,80 +35,76 @@ fn begins_with_one(bytes: &[u8]) -> bool
     }
 }
 
-fn is_playable(opening: &Option<Asc>) -> bool
-    ensures { result ≡ opens_playable opening.now }
-{
-    match opening {
-        Some(asc) => asc.usac.leading() == 0,
-        None => false,
-    }
-}
-
 /// Whether `play` takes the frame.
-fn takes(frame: &Frame, in_force: bool) -> bool
-    ensures { result ≡ play_takes in_force frame.now }
+fn takes(event: &Event, config: &UsacConfig) -> bool
+    ensures taken { (before : List Frame) (f : Frame) → IsEvent before f event.now → config.now ≡ config_of f → result ≡ true → IsNotBuilt before f → ⊥ }
+    ensures refused { (before : List Frame) (f : Frame) → IsEvent before f event.now → config.now ≡ config_of f → result ≡ false → IsNotBuilt before f }
 {
-    let au = frame.au.as_slice();
-    if in_force {
-        frame.opening.is_none() && !au.is_empty()
-    } else {
-        is_playable(&frame.opening) && begins_with_one(au)
+    let au = event.au.as_slice();
+    if event.frame == 0 {
+        return config.leading() == 0 && begins_with_one(au);
     }
+    !event.changed && !au.is_empty()
 }
 
-/// Reads the frame whose element these bytes are, if there is one that `play` takes.
-fn read_taken(alloc: Global, body: &[u8], in_force: bool) -> Result<Frame, ElementFault>
-    requires { length body.now ≤ 8191 }
-    ensures found { IfOk result (λ frame. IsBuilt play_takes in_force frame body.now) }
-    ensures none { IfErr result (λ fault. is_memory fault ≡ false → (frame : Frame) → IsBuilt play_takes in_force frame body.now → ⊥) }
+/// The configuration to which the core is reset before a frame.
+fn reset_of<'a>(event: &Event, config: &'a UsacConfig) -> Option<&'a UsacConfig>
+    ensures first { event.now.frame ≡ 0 → option_copied result ≡ Some config.entry }
+    ensures later { 0 < event.now.frame → option_copied result ≡ None }
 {
-    let frame = read_frame(alloc, body, in_force)?;
-    if !takes(&frame, in_force) {
-        return Err(ElementFault::NotBuilt);
+    if event.frame == 0 {
+        return Some(config);
     }
-    Ok(frame)
+    None
 }
 
-/// Resets the core where the frame opens a stream, and decodes the unit.
+/// Resets the core where there is a configuration for that, and decodes the unit.
 fn decode<C: Core>(
     alloc: Global,
-    opening: &Option<Asc>,
+    reset: Option<&UsacConfig>,
     unit: &Unit,
     core: &mut C,
     samples: &mut Vec<i16>,
 ) -> Result<(), CoreFault>
-    requires opening { IsOpenable opening.now (C.meaning core.old).ready }
+    requires opening { IsOpenable (option_copied reset.entry) (C.meaning core.old).ready }
     requires fed { (C.meaning core.old).fed < 2 ^ 64 - 1 }
-    ensures decodes { Decodes C.does opening.now unit.now (C.meaning core.old) (C.meaning core.new) samples.old.items samples.new.items result }
+    ensures decodes { Decodes C.does (option_copied reset.entry) unit.now (C.meaning core.old) (C.meaning core.new) samples.old.items samples.new.items result }
     ensures cause { HasCause (has_failed result) (C.meaning core.old).faults (C.meaning core.new).faults }
     ensures calm { C.IsCalm core.old → C.IsCalm core.new }
-    ensures calm_answers { C.IsCalm core.old → IsServed C.does (usac_of opening.now) → has_failed result ≡ false }
+    ensures calm_answers { C.IsCalm core.old → ServesReset C.does (option_copied reset.entry) → has_failed result ≡ false }
 {
-    if let Some(asc) = opening {
-        core.reset(alloc, &asc.usac)?;
+    if let Some(config) = reset {
+        core.reset(alloc, config)?;
     }
     core.step(alloc, unit, samples)
 }
 
 impl Task for Play {
     ghost use Rattle.xheaac_tool.specs.Stepping.{play_job};
+    ghost use Rattle.xheaac_tool.specs.Output.{IsServed};
 
     ghost job = { play_job };
 
-    ghost serves = { λ d frame. IsServed d (usac_of frame.opening) };
+    ghost serves = { IsServed };
 
     /// Plays a frame: its samples are one write.
     fn handle<K: Sink, C: Core>(
         alloc: Global,
-        body: &[u8],
-        in_force: bool,
+        event: &Event,
+        mux: &MuxConfig,
         out: &mut K,
         core: &mut C,
     ) -> Result<(), FrameEnd> {
-        let frame = read_taken(alloc, body, in_force)?;
-        let unit = make_unit(alloc, frame.au.as_slice())?;
+        let config = &mux.asc.usac;
+        if !takes(event, config) {
+            return Err(FrameEnd::Refused(Refusal {
+                place: Place::Frame(event.frame),
+                reason: Reason::FormNotBuilt,
+            }));
+        }
+        let unit = make_unit(alloc, event.au.as_slice())?;
         let mut samples = Vec::new(alloc);
-        decode(alloc, &frame.opening, &unit, core, &mut samples)?;
+        decode(alloc, reset_of(event, config), &unit, core, &mut samples)?;
         let mut bytes = Vec::new(alloc);
         push_sample_bytes(&samples, &mut bytes)?;
         give_all(out, &bytes)?;

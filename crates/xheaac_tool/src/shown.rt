@@ -1,27 +1,25 @@
 // `show`, frame by frame: the lines of what a frame puts in force.
-ghost use Rattle.std.specs.Prelude.{◌≡◌, Some, OnOk, OnErr};
+ghost use Rattle.std.specs.Prelude.{◌≡◌, true, OnOk, OnErr};
 ghost use Rattle.std.specs.Io.KnownBytes.{append_known};
 ghost use Rattle.causes.specs.Counts.{HasCause};
-ghost use Rattle.asc.specs.Asc.{IsWellFormed};
+ghost use Rattle.latm.specs.MuxConfig.{IsWellFormed};
 ghost use Rattle.outside.specs.Answers.{has_failed, IsFailed};
 ghost use Rattle.xheaac_tool.specs.Handing.{WrotePart};
-ghost use Rattle.xheaac_tool.specs.Showing.{joined, shown_of_opening};
+ghost use Rattle.xheaac_tool.specs.Showing.{joined, shown_where};
 
-use crate::canonical::read_frame;
 use crate::frame_end::FrameEnd;
 use crate::give::give_all;
 use crate::task::Task;
-use asc::Asc;
+use au_stream::Event;
 use bit_core::Octets;
 use core_iface::Core;
+use latm::MuxConfig;
 use outside::{DeviceFault, Sink};
 use std::alloc::Global;
-use tool_text::configuration_lines;
+use tool_text::mux_lines;
 
 /// The frames of `show`.
 pub struct Show;
-
-const MUX_LINE: &str = "mux version=0 subframes=1 fullness=255 other=- crc=-\n";
 
 /// Writes lines, one after another. A fault may come behind a part of them.
 fn give_lines<K: Sink>(out: &mut K, lines: &[Octets]) -> Result<(), DeviceFault>
@@ -37,20 +35,19 @@ fn give_lines<K: Sink>(out: &mut K, lines: &[Octets]) -> Result<(), DeviceFault>
     Ok(())
 }
 
-/// Writes the lines of a configuration that is put in force. A fault may come behind a part of them.
-fn give_opening<K: Sink>(alloc: Global, asc: &Asc, out: &mut K) -> Result<(), DeviceFault>
-    requires { IsWellFormed asc.now }
-    ensures ok { OnOk result (K.written out.new ≡ append_known (K.written out.old) (shown_of_opening (Some asc.now))) }
-    ensures err { OnErr result (WrotePart (K.written out.old) (K.written out.new) (shown_of_opening (Some asc.now))) }
+/// Writes the lines of a StreamMuxConfig. A fault may come behind a part of them.
+fn give_mux<K: Sink>(alloc: Global, mux: &MuxConfig, out: &mut K) -> Result<(), DeviceFault>
+    requires { IsWellFormed mux.now }
+    ensures ok { OnOk result (K.written out.new ≡ append_known (K.written out.old) (shown_where true mux.now)) }
+    ensures err { OnErr result (WrotePart (K.written out.old) (K.written out.new) (shown_where true mux.now)) }
     ensures cause { HasCause (has_failed result) (K.faults out.old) (K.faults out.new) }
     ensures calm { K.calm out.old → K.calm out.new }
     ensures calm_answers { K.calm out.old → IsFailed result → ⊥ }
 {
-    let lines = match configuration_lines(alloc, asc) {
+    let lines = match mux_lines(alloc, mux) {
         Ok(lines) => lines,
         Err(error) => return Err(DeviceFault::Memory(error)),
     };
-    give_all(out, MUX_LINE.as_bytes())?;
     give_lines(out, lines.as_slice())
 }
 
@@ -59,20 +56,19 @@ impl Task for Show {
 
     ghost job = { show_job };
 
-    ghost serves = { λ d frame. Unit {0} };
+    ghost serves = { λ d f. Unit {0} };
 
     /// Shows a frame: each line is one write.
     fn handle<K: Sink, C: Core>(
         alloc: Global,
-        body: &[u8],
-        in_force: bool,
+        event: &Event,
+        mux: &MuxConfig,
         out: &mut K,
         core: &mut C,
     ) -> Result<(), FrameEnd> {
         let _ = core;
-        let frame = read_frame(alloc, body, in_force)?;
-        if let Some(asc) = &frame.opening {
-            give_opening(alloc, asc, out)?;
+        if event.opens {
+            give_mux(alloc, mux, out)?;
         }
         Ok(())
     }

@@ -1,12 +1,17 @@
 // What a command does with one frame.
-ghost use Rattle.std.specs.Prelude.{◌≡◌, ◌≢◌, ◌-◌, ◌^◌, ◌≤◌, ◌<◌, true, false, Err, length};
+ghost use Rattle.std.specs.Prelude.{◌≡◌, ◌≢◌, ◌-◌, ◌^◌, ◌≤◌, ◌<◌, List, false, Err, length};
+ghost use Rattle.latm.specs.MuxConfig.{IsWellFormed};
 ghost use Rattle.core_iface.specs.Decoding.{Definitions};
-ghost use Rattle.xheaac_tool.specs.declared.frame.Frame.{Frame};
+ghost use Rattle.au_stream.specs.Frames.{Frame};
+ghost use Rattle.au_stream.specs.Events.{IsEvent};
+ghost use Rattle.xheaac_tool.specs.Commands.{Takes};
 ghost use Rattle.xheaac_tool.specs.Jobs.{Job, GivesOutput};
-ghost use Rattle.xheaac_tool.specs.OneFrame.{Handles, CausedBy, OfFrame};
+ghost use Rattle.xheaac_tool.specs.OneFrame.{Handles, CausedBy};
 
 use crate::frame_end::FrameEnd;
+use au_stream::Event;
 use core_iface::Core;
+use latm::MuxConfig;
 use outside::Sink;
 use std::alloc::Global;
 
@@ -18,23 +23,26 @@ pub trait Task {
     /// The frames at which a calm core does not fail.
     ghost serves: { Definitions → Frame → Type 0 };
 
-    /// Handles the frame of an element's bytes.
+    /// Handles a frame, of the StreamMuxConfig in force.
     fn handle<K: Sink, C: Core>(
         alloc: Global,
-        body: &[u8],
-        in_force: bool,
+        event: &Event,
+        mux: &MuxConfig,
         out: &mut K,
         core: &mut C,
     ) -> Result<(), FrameEnd>
-        requires size { length body.now ≤ 8191 }
-        requires ready { in_force ≡ true → (job C.does).Needs (C.meaning core.old).ready }
+        requires size { length event.now.au ≤ 8191 }
+        requires well_formed { IsWellFormed mux.now }
+        requires ready { 0 < event.now.frame → (job C.does).Needs (C.meaning core.old).ready }
         requires fed { (C.meaning core.old).fed < 2 ^ 64 - 1 }
-        ensures handles { Handles (job C.does) in_force body.now (C.meaning core.old) (C.meaning core.new) (K.written out.old) (K.written out.new) result }
+        ensures handles { (before : List Frame) (f : Frame) → IsEvent before f event.now → mux.now ≡ f.mux →
+            Handles (job C.does) before f (C.meaning core.old) (C.meaning core.new) (K.written out.old) (K.written out.new) result }
         ensures caused { CausedBy (K.faults out.old) (K.faults out.new) (C.meaning core.old).faults (C.meaning core.new).faults result }
         ensures calm_out { K.calm out.old → K.calm out.new }
         ensures calm_core { C.IsCalm core.old → C.IsCalm core.new }
         ensures calm_writes { K.calm out.old → result ≢ Err FrameEnd.WriteFault }
-        ensures calm_decodes { C.IsCalm core.old → OfFrame (job C.does) (serves C.does) in_force body.now → result ≢ Err FrameEnd.CoreFault }
+        ensures calm_decodes { (before : List Frame) (f : Frame) → IsEvent before f event.now → mux.now ≡ f.mux →
+            C.IsCalm core.old → (Takes (job C.does).command before f → serves C.does f) → result ≢ Err FrameEnd.CoreFault }
         ensures untouched { (job C.does).command.feeds ≡ false → core.new ≡ core.old }
         ensures no_core { (job C.does).command.feeds ≡ false → result ≢ Err FrameEnd.CoreFault };
 

@@ -26,6 +26,8 @@ const CORE_FAULT: &str = "core fault\n";
 
 const OUT_OF_MEMORY: &str = "out of memory\n";
 
+const TOO_LARGE: &str = "too large\n";
+
 /// Writes bytes on note, and answers the status. A fault of note changes no status; want of memory is status 6.
 fn report_bytes<N: Sink>(note: &mut N, text: &[u8], status: u8) -> u8
     ensures { Reports
@@ -59,6 +61,7 @@ fn finish<N: Sink>(note: &mut N, outcome: &Outcome) -> u8
         Outcome::WriteFault => report(note, WRITE_FAULT, 4),
         Outcome::CoreFault => report(note, CORE_FAULT, 5),
         Outcome::Memory(_) => report(note, OUT_OF_MEMORY, 6),
+        Outcome::TooLarge => report(note, TOO_LARGE, 7),
     }
 }
 
@@ -67,12 +70,13 @@ fn finish<N: Sink>(note: &mut N, outcome: &Outcome) -> u8
 /// | status | it means | note |
 /// |---|---|---|
 /// | 0 | all is done | nothing |
-/// | 1 | the stream is refused | `refused: frame N: form not built` |
+/// | 1 | the input is refused | `refused: `, the place and the reason |
 /// | 2 | the words are no command | the usage |
 /// | 3 | a read failed | `read fault` |
 /// | 4 | a write on `out` failed | `write fault` |
 /// | 5 | the core failed | `core fault` |
 /// | 6 | memory ran out | `out of memory` |
+/// | 7 | the input has more than 268,435,456 bytes, and nothing in them was refused | `too large` |
 ///
 /// A fault of `note` changes no status: then `note` holds a front of the text.
 pub fn run<H: Shelf, K: Sink, N: Sink, C: Core>(
@@ -91,7 +95,7 @@ pub fn run<H: Shelf, K: Sink, N: Sink, C: Core>(
         (record { before = N.written note.old; after = N.written note.new; faults_before = N.faults note.old; faults_after = N.faults note.new }) usage_text 2 result }
     ensures untouched { case_of (texts words.now) ≡ None → (shelf.new ≡ shelf.old) × (out.new ≡ out.old) × (core.new ≡ core.old) }
     ensures usage_only { result ≡ 2 → case_of (texts words.now) ≡ None }
-    ensures statuses { result < 7 }
+    ensures statuses { result < 8 }
 
     // A command on a file, where the shelf tells its bytes: they say what was written, and what each status means.
     ensures file { (case : Case) (text : List ℕ) → case_of (texts words.now) ≡ Some case → H.bytes shelf.old (file_in case) ≡ Some text →

@@ -12,7 +12,7 @@ pub returns-clause-does : goal.returns-clause-does
 returns-clause-does g c = λ text here.
     let id-is = c.in-Ok.ensures.number in
     let begun = ap (g.H.Shelf.left c.begin.new.self) id-is ∙ c.in-Ok.ensures.start ∙ here in
-    does_begun (g.T.Task.job g.C.Core.does) c.gives_output.ensures _ text _ _ _ _ (g.H.Shelf.left c.run_begun.new.shelf) _ _ begun id-is (c.run_begun.ensures.begun ∙ c.in-Ok.ensures.begun) c.run_begun.ensures.does
+    does_begun (g.T.Task.job g.C.Core.does).command text _ _ _ _ (g.H.Shelf.left c.run_begun.new.shelf) _ _ begun id-is (c.run_begun.ensures.begun ∙ c.in-Ok.ensures.begun) c.run_begun.ensures.does
 
 pub returns-clause-others : goal.returns-clause-others
 returns-clause-others g c = λ id lt.
@@ -33,4 +33,4 @@ pub returns-clause-taken : goal.returns-clause-taken
 returns-clause-taken g c =
     let id-is = c.in-Ok.ensures.number in
     let begun = ap (g.H.Shelf.left c.begin.new.self) id-is ∙ c.in-Ok.ensures.start in
-    taken_begun (g.T.Task.job g.C.Core.does) c.gives_output.ensures _ _ _ _ _ _ (g.H.Shelf.left c.run_begun.new.shelf) _ _ begun id-is (c.run_begun.ensures.begun ∙ c.in-Ok.ensures.begun) c.run_begun.ensures.does
+    taken_begun (g.T.Task.job g.C.Core.does).command _ _ _ _ _ (g.H.Shelf.left c.run_begun.new.shelf) _ _ begun id-is (c.run_begun.ensures.begun ∙ c.in-Ok.ensures.begun) c.run_begun.ensures.does

@@ -1,5 +1,6 @@
-use Rattle.std.proofs.Common.{◌≡◌, false, ◌+◌, ◌-◌, ◌*◌, ◌≤◌, length}
-use Rattle.xheaac_tool.specs.Reading.{most_bytes}
+use Rattle.std.proofs.Common.{◌≡◌, false, ◌≤◌, length}
+use Rattle.au_stream.specs.Giving.{weight}
+use Rattle.au_stream.specs.Script.{most_bytes}
 use Rattle.xheaac_tool.specs.Doing.{GoesOn}
 use Rattle.xheaac_tool.proofs.command.run_source.Given as goal
 
@@ -10,10 +11,8 @@ invariant-frames g l =
     let core = g.C.Core in
     record {
       so_far : GoesOn (g.T.Task.job core.does) (core.meaning l.initial.core) (core.meaning l.core) (source.left l.initial.source) (source.left l.source)
-          (sink.written l.initial.out) (sink.written l.out) l.reader l.count;
-      within : l.reader.taken ≤ most_bytes;
-      held : length l.reader.held ≤ l.reader.taken;
-      many : 3 * l.count + length l.reader.held ≤ l.reader.taken;
+          (sink.written l.initial.out) (sink.written l.out) l.reader;
+      few : l.reader.count ≤ most_bytes;
       source_faults : source.faults l.source ≡ source.faults l.initial.source;
       out_faults : sink.faults l.out ≡ sink.faults l.initial.out;
       core_faults : (core.meaning l.core).faults ≡ (core.meaning l.initial.core).faults;
@@ -25,4 +24,4 @@ invariant-frames g l =
     }
 
 abbrev pub decreases-frames : goal.decreases-frames
-decreases-frames g l = most_bytes - l.reader.taken + length l.reader.held
+decreases-frames g l = weight l.reader
