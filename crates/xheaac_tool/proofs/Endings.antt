@@ -1,15 +1,15 @@
 -- What a command on a source did is what the bytes of the file say.
-use Rattle.std.proofs.Common.{◌≡◌, ℕ, ◌+◌, ◌<◌, ◌≤◌, Bool, true, false, eqb, List, [], ◌∷◌, ◌++◌, length, Option, Some, None, refl, sym, ap, subst, ◌∙◌, append_assoc, arith}
+use Rattle.std.proofs.Common.{◌≡◌, ℕ, ◌+◌, ◌<◌, false, eqb, List, [], ◌∷◌, ◌++◌, Option, Some, None, refl, sym, ap, subst, ◌∙◌, arith}
 use Rattle.std.specs.declared.alloc.AllocError.{AllocError}
 use Rattle.std.proofs.lemmas.Bool.{lt-ltb, le-ltb, ne_eqb}
 use Rattle.outside.specs.Other.{all_but}
 use Rattle.std.proofs.lemmas.List.{append-nil}
 use Rattle.std.specs.Io.KnownBytes.{prepend_known, append_known, IsAtEnd}
-use Rattle.core_iface.specs.Answering.{Running, Meaning}
+use Rattle.core_iface.specs.Answering.{Meaning}
 use Rattle.latm.specs.declared.mux_config.MuxConfig.{MuxConfig}
 use Rattle.au_stream.specs.declared.event.Event.{Event}
 use Rattle.au_stream.specs.Frames.{Frame}
-use Rattle.au_stream.specs.Script.{most_bytes, End, HasFrames, IsScript}
+use Rattle.au_stream.specs.Script.{End, HasFrames}
 use Rattle.au_stream.specs.Reading.{Reading}
 use Rattle.au_stream.specs.Events.{Reads}
 use Rattle.au_stream.proofs.Scripts.{script_end, some_frames}
@@ -17,9 +17,9 @@ use Rattle.au_stream.proofs.Steps.{read_frames}
 use Rattle.std.specs.Prelude.{Ok}
 use Rattle.xheaac_tool.specs.declared.outcome.Outcome.{Outcome}
 use Rattle.xheaac_tool.specs.declared.outcome.Outcome.TheVariants as is
-use Rattle.xheaac_tool.specs.Commands.{Command, Takes, TakesAll, fed_for}
+use Rattle.xheaac_tool.specs.Commands.{Command, Takes}
 use Rattle.xheaac_tool.specs.Jobs.{Job, GivesOutput}
-use Rattle.xheaac_tool.specs.Ending.{Traces, TakesFirst, Ends, DoesFile, OfFile, remains_of}
+use Rattle.xheaac_tool.specs.Ending.{Traces, Ends, DoesFile, OfFile, remains_of}
 use Rattle.xheaac_tool.specs.Doing.{GoesOn, DoesSource}
 use Rattle.xheaac_tool.proofs.Going.{fed_none, prepend-none, append-none, prepend-prepend, takes_push, Next}
 

@@ -1,6 +1,5 @@
 -- A command on a source, from frame to frame and to its end.
-use Rattle.std.proofs.Common.{◌≡◌, ℕ, ◌+◌, ◌-◌, ◌<◌, ◌≤◌, Bool, true, false, List, [], ◌∷◌, ◌++◌, length, take, Option, Some, None, Result, Ok, Err, refl, sym, ap, subst, ◌∙◌, append_assoc, arith, inl, inr}
-use Rattle.std.specs.Prelude.{◌≢◌}
+use Rattle.std.proofs.Common.{◌≡◌, ℕ, ◌+◌, ◌<◌, ◌≤◌, Bool, true, false, List, [], ◌∷◌, ◌++◌, length, take, Option, Some, None, Result, Ok, Err, refl, sym, ap, subst, ◌∙◌, append_assoc, arith, inl, inr}
 use Rattle.std.specs.Option.{option_map}
 use Rattle.std.proofs.lemmas.List.{length-append, append-nil, take_all}
 use Rattle.std.proofs.Math.Seq.{take-append-add}
@@ -14,7 +13,7 @@ use Rattle.au_stream.specs.declared.event.Event.{Event}
 use Rattle.au_stream.specs.declared.fault.StreamFault.{StreamFault}
 use Rattle.au_stream.specs.declared.fault.StreamFault.TheVariants as streams
 use Rattle.au_stream.specs.Frames.{Frame, last_of}
-use Rattle.au_stream.specs.Script.{most_bytes, Mark, End, SyncLost, BadElement, Truncated, TooLarge, HasFrames, IsScript, IsOpen}
+use Rattle.au_stream.specs.Script.{Mark, SyncLost, BadElement, Truncated, HasFrames, IsScript}
 use Rattle.au_stream.specs.Reading.{Reading, HasRead}
 use Rattle.au_stream.specs.Taking.{Seen}
 use Rattle.au_stream.specs.Events.{IsEvent, Answers, Reads}
@@ -27,9 +26,8 @@ use Rattle.xheaac_tool.specs.declared.outcome.Outcome.{Outcome}
 use Rattle.xheaac_tool.specs.declared.outcome.Outcome.TheVariants as is
 use Rattle.xheaac_tool.specs.Commands.{Command, Takes, TakesAll, fed_for}
 use Rattle.xheaac_tool.specs.Jobs.{Job, GivesOutput, step_through, bytes_through}
-use Rattle.xheaac_tool.specs.Handing.{WrotePart}
-use Rattle.xheaac_tool.specs.OneFrame.{Handles, DidFrame, DidPart, DidNone}
-use Rattle.xheaac_tool.specs.Ending.{Traces, WroteAll, WroteFront, RefusesFrame, RefusesMark, TakesFirst, Passes, Ends, refusal_of_mark}
+use Rattle.xheaac_tool.specs.OneFrame.{Handles, DidFrame, DidPart}
+use Rattle.xheaac_tool.specs.Ending.{Traces, WroteAll, WroteFront, TakesFirst, Ends, refusal_of_mark}
 use Rattle.xheaac_tool.specs.Doing.{GoesOn, DoesSource, IsRefusedBy, Becomes, BecomesOf}
 use Rattle.xheaac_tool.proofs.Handing.{append-append}
 
@@ -113,6 +111,23 @@ next_frame got given old new before now event mux p last =
     let k = p.leaves in
     let e : Some mux ≡ Some k.0.mux = last (got ++ p.more) (given ++ k.0 ∷ []) k.2 ∙ ap (λ (l : Option Frame). option_map (λ (f : Frame). f.mux) l) (last-push given k.0) in
     record { frame = k.0; is = k.1; read = k.2; mux_is = cc }
+
+-- behind a frame a configuration is in force
+pub no_frame : (got : List ℕ) (given : List Frame) (old new : Reading) (before now : Seen) (event : Event) → (p : Reads got given old new before now (Ok (Some event)))
+    → ((taken : List ℕ) (fs : List Frame) → HasRead taken fs new → None ≡ option_map (λ (f : Frame). f.mux) (last_of fs)) → ⊥
+no_frame got given old new before now event p last =
+    let k = p.leaves in
+    let e : None ≡ Some k.0.mux = last (got ++ p.more) (given ++ k.0 ∷ []) k.2 ∙ ap (λ (l : Option Frame). option_map (λ (f : Frame). f.mux) l) (last-push given k.0) in
+    cc
+
+-- how many units were fed
+pub given_fed : (j : Job) (old now : Meaning) (left0 left1 before w1 : Option (List ℕ)) (r : Reading) → GoesOn j old now left0 left1 before w1 r → now.fed ≤ old.fed + r.count
+given_fed j old now left0 left1 before w1 r s = omega (arith, s.fed, fed_few j.command.feeds (length s.given), s.read.holds.counted)
+
+-- the core is ready for a frame that is not the first one
+pub needs_now : (j : Job) (old mid : Meaning) (left0 left1 left2 before w1 : Option (List ℕ)) (r1 r2 : Reading) (f1 f2 : ℕ) (event : Event)
+    → (s : GoesOn j old mid left0 left1 before w1 r1) → Reads s.got s.given r1 r2 (record { left = left1; faults = f1 }) (record { left = left2; faults = f2 }) (Ok (Some event)) → 0 < event.frame → j.Needs mid.ready
+needs_now j old mid left0 left1 left2 before w1 r1 r2 f1 f2 event s p some = let k = p.leaves in s.needed (omega (arith, some, k.1.number))
 
 -- the bytes of the frames before a frame, and bytes of its own
 output_front : (j : Job) (ready : Option Running) (given : List Frame) (before w1 w2 : Option (List ℕ)) (bytes : List ℕ) → w1 ≡ append_known before (bytes_through j [] ready given)

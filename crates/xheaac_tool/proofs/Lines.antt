@@ -1,5 +1,5 @@
 -- Lemmas on lines that are written one after another.
-use Rattle.std.proofs.Common.{◌≡◌, ℕ, zero, suc, ◌+◌, ◌<◌, List, [], ◌∷◌, ◌++◌, length, take, drop, get_or, Bool, true, Option, Some, Err, inl, inr, refl, sym, ap, subst, ◌∙◌, append_assoc, arith}
+use Rattle.std.proofs.Common.{◌≡◌, ℕ, zero, suc, ◌+◌, ◌<◌, List, [], ◌∷◌, ◌++◌, length, take, drop, get_or, Bool, true, Option, Err, inl, inr, refl, sym, ap, subst, ◌∙◌, append_assoc, arith}
 use Rattle.std.specs.Io.KnownBytes.{append_known}
 use Rattle.std.proofs.lemmas.Bool.{cases_lt}
 use Rattle.std.proofs.lemmas.List.{take_all, take-append-le, take_at}
@@ -10,6 +10,7 @@ use Rattle.core_iface.specs.Decoding.{Definitions}
 use Rattle.core_iface.specs.Answering.{Meaning}
 use Rattle.outside.specs.declared.fault.DeviceFault.{DeviceFault}
 use Rattle.outside.specs.declared.fault.DeviceFault.TheVariants as devices
+use Rattle.tool_text.specs.MuxLine.{lines_of_mux}
 use Rattle.au_stream.specs.Frames.{Frame}
 use Rattle.xheaac_tool.specs.OneFrame.{Handles, DidFrame, DidPart, from_device}
 use Rattle.xheaac_tool.specs.Showing.{joined, shown_where, show_job}
@@ -76,3 +77,10 @@ show_did d before f m w0 w1 mux is written = record {
   fed = omega arith;
   written = written ∙ ap (λ (x : MuxConfig). append_known w0 (shown_where f.opens x)) is;
 }
+
+-- the lines of a mux
+pub lines_all : (before after : Option (List ℕ)) (mux : MuxConfig) (lines : List (List ℕ)) → lines ≡ lines_of_mux mux → after ≡ append_known before (joined lines) → after ≡ append_known before (shown_where true mux)
+lines_all before after mux lines is written = written ∙ ap (λ (x : List (List ℕ)). append_known before (joined x)) is
+
+pub lines_part : (before after : Option (List ℕ)) (mux : MuxConfig) (lines : List (List ℕ)) → lines ≡ lines_of_mux mux → WrotePart before after (joined lines) → WrotePart before after (shown_where true mux)
+lines_part before after mux lines is part = subst (λ (x : List (List ℕ)). WrotePart before after (joined x)) is part

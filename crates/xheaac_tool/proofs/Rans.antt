@@ -12,16 +12,17 @@ use Rattle.au_stream.proofs.Scripts.{frames_of_script, frames_of_front}
 use Rattle.xheaac_tool.specs.Commands.{Command, TakesAll}
 use Rattle.xheaac_tool.specs.Causes.{Counts, Caused}
 use Rattle.xheaac_tool.specs.Handing.{WrotePart}
-use Rattle.xheaac_tool.specs.Ending.{Traces, DoesFile, Ends, TakesFirst, Passes, IsRefused, WroteAll, WroteFront}
+use Rattle.xheaac_tool.specs.Ending.{Traces, DoesFile, Ends, TakesFirst, Passes, IsRefused, WroteFront}
+use Rattle.xheaac_tool.specs.Doing.{IsNotBegun}
 use Rattle.xheaac_tool.specs.Ran.{Notes, Noted, Reports, IsTextOfCommand, NotedFront, NotesOf, CausesOf, RunsFile, command_of, status_of, text_of}
-use Rattle.xheaac_tool.specs.Texts.{read_text, write_text, core_text, memory_text, large_text}
+use Rattle.xheaac_tool.specs.Texts.{memory_text}
 use Rattle.xheaac_tool.specs.declared.words.Asked.{Asked}
 use Rattle.xheaac_tool.specs.Asked.{asked}
 use Rattle.xheaac_tool.specs.Words.{Case, case_of, file_in, file_of, Show, Play}
 use Rattle.xheaac_tool.specs.declared.outcome.Outcome.{Outcome}
 use Rattle.xheaac_tool.specs.declared.outcome.Outcome.TheVariants as is
 use Rattle.xheaac_tool.proofs.Endings.{told}
-use Rattle.xheaac_tool.proofs.Going.{all_front, append-none}
+use Rattle.xheaac_tool.proofs.Going.{all_front}
 
 -- ---- statuses and outcomes
 
@@ -206,6 +207,17 @@ causes_of n before now o s c r = record {
   core = λ e. subst (λ (x : Outcome). Caused before now x) (core_outcome n o s r e) c;
   large = λ e. subst (λ (x : Outcome). Caused before now x) (large_outcome n o s r e) c;
 }
+
+-- the input could not be begun
+pub begun_status : (n : Notes) (o : Outcome) (s : ℕ) → IsNotBegun o → Reports n (text_of o) (status_of o) s → (s ≡ 3) ⊎ (s ≡ 6)
+begun_status n o s b (inr (a, part)) = inr a
+begun_status n is.ReadFault s b (inl (a, noted)) = inl a
+begun_status n (is.Memory error) s b (inl (a, noted)) = inr a
+begun_status n is.Done s b (inl (a, noted)) = absurd b
+begun_status n (is.Refused words) s b (inl (a, noted)) = absurd b
+begun_status n is.WriteFault s b (inl (a, noted)) = absurd b
+begun_status n is.CoreFault s b (inl (a, noted)) = absurd b
+begun_status n is.TooLarge s b (inl (a, noted)) = absurd b
 
 -- every status but that of the usage
 pub play_status : (n : Notes) (o : Outcome) (s : ℕ) → Reports n (text_of o) (status_of o) s → (s < 8) × (s ≢ 2)

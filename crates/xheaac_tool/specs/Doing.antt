@@ -1,8 +1,8 @@
 -- What a command on a source has done so far, and what it has done at its end, whether the source tells its bytes or not.
-use Rattle.std.specs.Prelude.{◌≡◌, ℕ, ◌+◌, ◌<◌, ◌≤◌, Bool, true, List, [], ◌∷◌, ◌++◌, length, Some, None}
+use Rattle.std.specs.Prelude.{◌≡◌, ℕ, ◌+◌, ◌<◌, ◌≤◌, Bool, true, List, [], ◌++◌, length, Some}
 use Rattle.std.specs.declared.option.Option.{Option}
 use Rattle.std.specs.Io.KnownBytes.{prepend_known, append_known, IsAtEnd}
-use Rattle.core_iface.specs.Answering.{Running, Meaning}
+use Rattle.core_iface.specs.Answering.{Meaning}
 use Rattle.tool_text.specs.declared.refusal.Refusal.{Refusal}
 use Rattle.tool_text.specs.Refusal.{refusal_text}
 use Rattle.tool_text.specs.Faults.{refusal_of_loas, refusal_of_mux}

@@ -11,7 +11,7 @@ use Rattle.au_stream.specs.Frames.{Frame}
 use Rattle.au_stream.specs.Script.{most_bytes, Mark, End, SyncLost, BadElement, Truncated, TooLarge, HasFrames, IsScript, IsOpen}
 use Rattle.xheaac_tool.specs.declared.outcome.Outcome.{Outcome}
 use Rattle.xheaac_tool.specs.declared.outcome.Outcome.TheVariants as is
-use Rattle.xheaac_tool.specs.Commands.{Command, Takes, TakesAll, fed_for}
+use Rattle.xheaac_tool.specs.Commands.{Command, TakesAll, fed_for}
 use Rattle.xheaac_tool.specs.Handing.{WrotePart}
 
 -- what was written on out, and how many units the core was fed, before the command and behind it

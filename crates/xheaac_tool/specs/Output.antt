@@ -1,5 +1,5 @@
 -- What `play` writes for the frames of a stream.
-use Rattle.std.specs.Prelude.{◌≡◌, ◌≢◌, ◌⊎◌, ℕ, Bool, true, false, List, [], ◌∷◌, length, drop, map, Option, Some, None, ℤ}
+use Rattle.std.specs.Prelude.{◌≡◌, ◌≢◌, ◌⊎◌, ℕ, Bool, true, false, List, [], ◌∷◌, length, drop, map, ℤ}
 use Rattle.layout.specs.Text.{bits_of}
 use Rattle.bit_core.specs.Trim.{trimmed}
 use Rattle.usac_cfg.specs.declared.usac_config.UsacConfig.{UsacConfig}

@@ -1,12 +1,10 @@
 -- The steps of each command give its output.
-use Rattle.std.proofs.Common.{◌≡◌, ℕ, Bool, true, false, List, [], ◌∷◌, ◌++◌, Option, Some, None, refl, sym, ap, ◌∙◌, append_assoc}
-use Rattle.std.proofs.lemmas.List.{append-nil}
+use Rattle.std.proofs.Common.{◌≡◌, ℕ, List, [], ◌∷◌, ◌++◌, Option, refl, sym, ap, ◌∙◌}
 use Rattle.core_iface.specs.Decoding.{Definitions}
 use Rattle.core_iface.specs.Answering.{Running, running, stepped, emitted, emitted_over, emitted_over-running}
 use Rattle.core_iface.specs.Samples.{sample_bytes, sample_bytes-append}
 use Rattle.au_stream.specs.Frames.{Frame, config_of}
-use Rattle.xheaac_tool.specs.Commands.{TakesAll}
-use Rattle.xheaac_tool.specs.Jobs.{Job, GivesOutput, bytes_through, step_through}
+use Rattle.xheaac_tool.specs.Jobs.{GivesOutput, bytes_through}
 use Rattle.xheaac_tool.specs.Output.{unit_of, units_of}
 use Rattle.xheaac_tool.specs.Stepping.{play_job}
 use Rattle.xheaac_tool.specs.Showing.{show_job}

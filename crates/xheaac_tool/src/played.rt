@@ -37,6 +37,7 @@ fn begins_with_one(bytes: &[u8]) -> bool
 
 /// Whether `play` takes the frame.
 fn takes(event: &Event, config: &UsacConfig) -> bool
+    ensures some { result ≡ true → 0 < length event.now.au }
     ensures taken { (before : List Frame) (f : Frame) → IsEvent before f event.now → config.now ≡ config_of f → result ≡ true → IsNotBuilt before f → ⊥ }
     ensures refused { (before : List Frame) (f : Frame) → IsEvent before f event.now → config.now ≡ config_of f → result ≡ false → IsNotBuilt before f }
 {
@@ -49,7 +50,7 @@ fn takes(event: &Event, config: &UsacConfig) -> bool
 
 /// The configuration to which the core is reset before a frame.
 fn reset_of<'a>(event: &Event, config: &'a UsacConfig) -> Option<&'a UsacConfig>
-    ensures first { event.now.frame ≡ 0 → option_copied result ≡ Some config.entry }
+    ensures first { event.now.frame ≡ 0 → option_copied result ≡ Some config.now }
     ensures later { 0 < event.now.frame → option_copied result ≡ None }
 {
     if event.frame == 0 {
@@ -66,7 +67,7 @@ fn decode<C: Core>(
     core: &mut C,
     samples: &mut Vec<i16>,
 ) -> Result<(), CoreFault>
-    requires opening { IsOpenable (option_copied reset.entry) (C.meaning core.old).ready }
+    requires opening { IsOpenable (option_copied reset) (C.meaning core.old).ready }
     requires fed { (C.meaning core.old).fed < 2 ^ 64 - 1 }
     ensures decodes { Decodes C.does (option_copied reset.entry) unit.now (C.meaning core.old) (C.meaning core.new) samples.old.items samples.new.items result }
     ensures cause { HasCause (has_failed result) (C.meaning core.old).faults (C.meaning core.new).faults }

@@ -1,4 +1,4 @@
-use Rattle.std.proofs.Common.{◌≡◌, false, ◌≤◌, length}
+use Rattle.std.proofs.Common.{◌≡◌, false, ◌≤◌}
 use Rattle.au_stream.specs.Giving.{weight}
 use Rattle.au_stream.specs.Script.{most_bytes}
 use Rattle.xheaac_tool.specs.Doing.{GoesOn}

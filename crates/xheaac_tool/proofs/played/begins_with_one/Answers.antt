@@ -1,5 +1,5 @@
 use Rattle.std.proofs.Common.{arith}
-use Rattle.xheaac_tool.proofs.BuiltFrames.{no_bytes_first, bytes_first}
+use Rattle.xheaac_tool.proofs.FirstBits.{no_bytes_first, bytes_first}
 use Rattle.xheaac_tool.proofs.played.begins_with_one.Goals as goal
 
 pub returns-in-empty : goal.returns-in-empty

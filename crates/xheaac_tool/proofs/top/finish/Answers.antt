@@ -11,3 +11,6 @@ returns-in-CoreFault-clause-reports g c = rw c.in-CoreFault.is c.report-in-CoreF
 
 pub returns-in-Memory-clause-reports : goal.returns-in-Memory-clause-reports
 returns-in-Memory-clause-reports g c = rw c.in-Memory.is c.report-in-Memory.ensures
+
+pub returns-in-TooLarge-clause-reports : goal.returns-in-TooLarge-clause-reports
+returns-in-TooLarge-clause-reports g c = rw c.in-TooLarge.is c.report-in-TooLarge.ensures

@@ -1,8 +1,9 @@
-use Rattle.std.proofs.Common.{◌≡◌, ℕ, List, ap, ◌∙◌, subst}
+use Rattle.std.proofs.Common.{◌≡◌, ℕ, List, ap, sym, ◌∙◌, subst}
+use Rattle.std.specs.Prelude.{IsNone}
 use Rattle.std.specs.Io.KnownBytes.{prepend_known}
 use Rattle.xheaac_tool.specs.Ending.{remains_of}
 use Rattle.xheaac_tool.specs.Words.{texts, case_of, Show, Play}
-use Rattle.xheaac_tool.proofs.Rans.{file_named, runs_known, known_case}
+use Rattle.xheaac_tool.proofs.Rans.{file_named, runs_known, known_case, begun_status, notes_of}
 use Rattle.xheaac_tool.proofs.top.run.Goals as goal
 
 pub returns-in-Some-Show-clause-file : goal.returns-in-Some-Show-clause-file
@@ -34,3 +35,23 @@ returns-in-Some-Play-clause-taken g c = λ case asked.
     let k = c.do_play.ensures.taken in
     let from = subst (λ (x : List ℕ). g.H.Shelf.bytes c.args.shelf.now x ≡ prepend_known k.0 (remains_of (g.H.Shelf.begun c.args.shelf.now) (g.H.Shelf.begun c.do_play.new.shelf) (g.H.Shelf.left c.do_play.new.shelf (g.H.Shelf.begun c.args.shelf.now)) (g.H.Shelf.bytes c.args.shelf.now x))) named k.1 in
     (k.0, from, runs_known g.C.Core.does (Play c.in-Some-Play.field-0-0.now) case k.0 _ _ _ c.do_play.result c.finish-in-Some-Play.result known k.2 c.finish-in-Some-Play.ensures.reports)
+
+pub returns-in-Some-Show-clause-missing : goal.returns-in-Some-Show-clause-missing
+returns-in-Some-Show-clause-missing g c = λ case asked tells none.
+    let named = file_named (texts c.args.words.now) case asked in
+    let m = c.do_show.ensures.missing tells (subst (λ (x : List ℕ). IsNone (g.H.Shelf.bytes c.args.shelf.now x)) (sym named) none) in
+    (begun_status _ c.do_show.result c.finish.result m.0 c.finish.ensures.reports, m.1, m.2)
+
+pub returns-in-Some-Show-clause-notes : goal.returns-in-Some-Show-clause-notes
+returns-in-Some-Show-clause-notes g c = λ case asked.
+    notes_of _ c.do_show.result c.finish.result (λ is_done. let same = (c.finish.ensures.done is_done).1 in (ap g.N.Sink.written same, ap g.N.Sink.faults same)) c.finish.ensures.reports
+
+pub returns-in-Some-Play-clause-missing : goal.returns-in-Some-Play-clause-missing
+returns-in-Some-Play-clause-missing g c = λ case asked tells none.
+    let named = file_named (texts c.args.words.now) case asked in
+    let m = c.do_play.ensures.missing tells (subst (λ (x : List ℕ). IsNone (g.H.Shelf.bytes c.args.shelf.now x)) (sym named) none) in
+    (begun_status _ c.do_play.result c.finish-in-Some-Play.result m.0 c.finish-in-Some-Play.ensures.reports, m.1, m.2)
+
+pub returns-in-Some-Play-clause-notes : goal.returns-in-Some-Play-clause-notes
+returns-in-Some-Play-clause-notes g c = λ case asked.
+    notes_of _ c.do_play.result c.finish-in-Some-Play.result (λ is_done. let same = (c.finish-in-Some-Play.ensures.done is_done).1 in (ap g.N.Sink.written same, ap g.N.Sink.faults same)) c.finish-in-Some-Play.ensures.reports

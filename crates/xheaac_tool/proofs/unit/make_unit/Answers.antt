@@ -1,6 +1,6 @@
 use Rattle.std.proofs.Common.{◌∙◌, ap, refl}
 use Rattle.layout.specs.Reader.{Reader, left}
-use Rattle.xheaac_tool.proofs.BuiltFrames.{some_bits}
+use Rattle.xheaac_tool.proofs.FirstBits.{some_bits}
 use Rattle.xheaac_tool.proofs.unit.make_unit.Goals as goal
 
 pub unreachable-requires : goal.unreachable-requires
