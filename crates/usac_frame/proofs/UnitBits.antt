@@ -1,6 +1,6 @@
 -- Bits that were written, and are taken off the bytes again.
 use Rattle.std.proofs.Common.{◌≡◌, ℕ, ◌-◌, ◌*◌, ◌%◌, ◌≤◌, Bool, true, false, List, ◌++◌, length, take, drop, replicate, Err, refl, sym, ap, ◌∙◌, arith}
-use Rattle.std.proofs.lemmas.List.{length-append, length-take-le, take-append-drop, take_at}
+use Rattle.std.proofs.lemmas.List.{length-append, length-take-le, take-append-drop}
 use Rattle.layout.specs.Text.{bits_of, pad}
 use Rattle.layout.specs.Reader.{Reader, left}
 use Rattle.layout.specs.Layout.{wrapped}
@@ -25,7 +25,3 @@ never_short bytes n old new s is le reads =
 -- the bytes of a text have all of its bits
 pub all_held : (t : List Bool) (bytes : List ℕ) → bits_of bytes ≡ pad t → length t ≤ 8 * length bytes
 all_held t bytes e = omega (arith, length-bits_of bytes, ap (λ (x : List Bool). length x) e, length-append t (replicate ((8 - length t % 8) % 8) false))
-
--- and begin with them
-pub held : (t : List Bool) (bytes : List ℕ) (n : ℕ) → bits_of bytes ≡ pad t → n ≡ length t → take n (bits_of bytes) ≡ t
-held t bytes n e is = ap (λ (x : List Bool). take n x) e ∙ take_at t (replicate ((8 - length t % 8) % 8) false) n (sym is)

@@ -46,11 +46,7 @@ pub fn read_frame(alloc: Global, config: &UsacConfig, au: &[u8]) -> Result<Frame
 /// Writes a frame that fits the configuration: the bytes of its spelling, with the fewest zero bits that fill the last byte.
 ///
 /// Errors: want of memory.
-pub fn write_frame(
-    alloc: Global,
-    config: &UsacConfig,
-    frame: &Frame,
-) -> Result<Octets, AllocError>
+pub fn write_frame(alloc: Global, config: &UsacConfig, frame: &Frame) -> Result<Octets, AllocError>
     requires { FitsConfig config.now frame.now }
     ensures { IfOk result (λ bytes. bits_of bytes ≡ pad (frame_text config.now frame.now)) }
 {

@@ -22,10 +22,7 @@ use std::alloc::Global;
 use usac_cfg::{ElementConfig, ExtConfig, UsacConfig};
 
 /// Reads the form of a part's length, and the length in bytes.
-fn read_length(
-    reader: &mut BitReader,
-    default_length: u32,
-) -> Result<(LengthForm, u32), FrameFault>
+fn read_length(reader: &mut BitReader, default_length: u32) -> Result<(LengthForm, u32), FrameFault>
     ensures { GivesUnless is_memory (part_length default_length) reader.old reader.new result }
 {
     if flag(reader)? {
@@ -52,11 +49,7 @@ fn read_marks(reader: &mut BitReader, there: bool) -> Result<(bool, bool), Frame
 }
 
 /// Reads a part of an element. A refusal may stand behind some of its fields.
-fn read_part(
-    alloc: Global,
-    reader: &mut BitReader,
-    ext: &ExtConfig,
-) -> Result<ExtPart, FrameFault>
+fn read_part(alloc: Global, reader: &mut BitReader, ext: &ExtConfig) -> Result<ExtPart, FrameFault>
     ensures { GivesUnless is_memory (part ext.now) reader.old reader.new result }
 {
     if !flag(reader)? {

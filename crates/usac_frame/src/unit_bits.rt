@@ -72,11 +72,7 @@ fn preroll_parts(config: &UsacConfig) -> usize
 }
 
 /// The bits behind the preroll element.
-pub fn bits_of_core(
-    alloc: Global,
-    config: &UsacConfig,
-    frame: &Frame,
-) -> Result<Bits, AllocError>
+pub fn bits_of_core(alloc: Global, config: &UsacConfig, frame: &Frame) -> Result<Bits, AllocError>
     requires { FitsConfig config.now frame.now }
     ensures { IfOk result (λ bits. bits ≡ core_text config.now frame.now) }
 {

@@ -45,11 +45,7 @@ fn write_marks(
 }
 
 /// Writes a part that fits the configuration of its element.
-fn write_part(
-    ext: &ExtConfig,
-    part: &ExtPart,
-    writer: &mut BitWriter,
-) -> Result<(), AllocError>
+fn write_part(ext: &ExtConfig, part: &ExtPart, writer: &mut BitWriter) -> Result<(), AllocError>
     requires { IsPart ext.now part.now }
     ensures { OnOk result (writer.new ≡ writer.old ++ part_text ext.now part.now) }
 {
