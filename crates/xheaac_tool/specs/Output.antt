@@ -3,7 +3,7 @@ use Rattle.std.specs.Prelude.{ℕ, Bool, true, false, not, List, [], ◌∷◌, 
 use Rattle.layout.specs.Text.{bits_of}
 use Rattle.bit_core.specs.Trim.{trimmed}
 use Rattle.usac_cfg.specs.declared.usac_config.UsacConfig.{UsacConfig}
-use Rattle.core_iface.specs.Units.{UnitValue}
+use Rattle.usac_frame.specs.Units.{UnitValue}
 use Rattle.core_iface.specs.Decoding.{Definitions, out, samples_of}
 use Rattle.core_iface.specs.Samples.{sample_bytes}
 use Rattle.xheaac_tool.specs.declared.frame.Frame.{Frame}
