@@ -2,7 +2,7 @@
 -- speak of a decoder's state, and are this project's own.
 use Rattle.std.specs.Prelude.{ℕ, List, [], ◌∷◌, ◌++◌, ℤ}
 use Rattle.usac_cfg.specs.declared.usac_config.UsacConfig.{UsacConfig}
-use Rattle.core_iface.specs.Units.{UnitValue}
+use Rattle.usac_frame.specs.Units.{UnitValue}
 
 -- What a type of core says of itself. A state is a list of whole numbers.
 pub record Definitions : Type 1 where

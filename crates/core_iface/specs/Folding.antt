@@ -6,7 +6,7 @@ use Rattle.std.specs.List.{flat_map}
 use Rattle.std.proofs.Common.{zero, suc}
 use Rattle.usac_cfg.specs.declared.usac_config.UsacConfig.{UsacConfig}
 use Rattle.usac_cfg.specs.UsacConfig.{IsWellFormed, ratio, channels, frame_length}
-use Rattle.core_iface.specs.Units.{UnitValue}
+use Rattle.usac_frame.specs.Units.{UnitValue}
 use Rattle.core_iface.specs.Decoding.{Definitions}
 use Rattle.core_iface.specs.Answering.{Running, Meaning, running}
 

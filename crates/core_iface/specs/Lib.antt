@@ -1,4 +1,3 @@
-pub mod Units
 pub mod Faults
 pub mod Decoding
 pub mod Answering

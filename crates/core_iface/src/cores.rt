@@ -5,9 +5,9 @@ ghost use Rattle.core_iface.specs.Decoding.{Definitions};
 ghost use Rattle.core_iface.specs.Faults.{has_failed};
 
 use crate::fault::CoreFault;
-use crate::unit::Unit;
 use std::alloc::Global;
 use usac_cfg::UsacConfig;
+use usac_frame::Unit;
 
 /// A decoder of units into samples.
 ///

@@ -4,11 +4,11 @@ ghost use Rattle.core_iface.specs.Folding.{warm_of, places, value_of, weighted, 
 
 use crate::cores::Core;
 use crate::fault::CoreFault;
-use crate::unit::Unit;
 use bit_core::Bits;
 use std::alloc::{AllocError, Global};
 use std::marker::Model;
 use usac_cfg::UsacConfig;
+use usac_frame::Unit;
 
 /// The example core, which decodes no audio. It never fails, but for want of memory.
 ///

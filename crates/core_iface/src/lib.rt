@@ -11,13 +11,12 @@ mod cores;
 mod fault;
 mod fold;
 mod samples;
-mod unit;
 
 pub use cores::Core;
 pub use fault::CoreFault;
 pub use fold::FoldCore;
 pub use samples::push_sample_bytes;
-pub use unit::Unit;
+pub use usac_frame::Unit;
 
 #[cfg(test)]
 mod tests;

@@ -5,7 +5,7 @@ use Rattle.std.specs.Io.KnownBytes.{append_known}
 use Rattle.layout.specs.Text.{bits_of}
 use Rattle.usac_cfg.specs.declared.usac_config.UsacConfig.{UsacConfig}
 use Rattle.usac_cfg.specs.UsacConfig.{IsWellFormed}
-use Rattle.core_iface.specs.Units.{UnitValue}
+use Rattle.usac_frame.specs.Units.{UnitValue}
 use Rattle.core_iface.specs.Decoding.{Definitions}
 use Rattle.core_iface.specs.Answering.{Running, Meaning, stepped, emitted}
 use Rattle.core_iface.specs.Samples.{sample_bytes}

@@ -4,7 +4,7 @@ use Rattle.layout.specs.Text.{bits_of}
 use Rattle.bit_core.specs.Trim.{trimmed}
 use Rattle.usac_cfg.specs.declared.usac_config.UsacConfig.{UsacConfig}
 use Rattle.usac_cfg.specs.UsacConfig.{leading}
-use Rattle.core_iface.specs.Units.{UnitValue}
+use Rattle.usac_frame.specs.Units.{UnitValue}
 use Rattle.core_iface.specs.Decoding.{Definitions, out, samples_of}
 use Rattle.core_iface.specs.Samples.{sample_bytes}
 use Rattle.tool_text.specs.declared.refusal.Place.TheVariants as places

@@ -2,7 +2,7 @@ use Rattle.std.proofs.Common.{◌≡◌, ℕ, zero, suc, ◌+◌, ◌≤◌, ◌
 use Rattle.std.proofs.lemmas.Grind.{common_steps}
 use Rattle.usac_cfg.specs.declared.usac_config.UsacConfig.{UsacConfig}
 use Rattle.usac_cfg.specs.UsacConfig.{channels, frame_length}
-use Rattle.core_iface.specs.Units.{UnitValue}
+use Rattle.usac_frame.specs.Units.{UnitValue}
 use Rattle.core_iface.specs.Answering.{running, emitted}
 use Rattle.core_iface.specs.Folding.{fold_core, warm_of, value_of, weighted, ramp}
 use Rattle.core_iface.proofs.fold.FoldCoreCore.step.Goals as goal

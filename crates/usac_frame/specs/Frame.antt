@@ -1,0 +1,64 @@
+-- A frame, field by field (ISO/IEC 23003-3, UsacFrame).
+use Rattle.std.specs.Prelude.{◌≡◌, Bool, true, false, List, [], ◌∷◌, Result, IfOk, IfErr, IsErrAnd}
+use Rattle.layout.specs.Layout.{Layout, both}
+use Rattle.layout.specs.ToEnd.{rest}
+use Rattle.usac_cfg.specs.declared.element_config.ElementConfig.{ElementConfig}
+use Rattle.usac_cfg.specs.declared.element_config.ElementConfig.TheVariants.{Single, Pair, Lfe, Ext}
+use Rattle.usac_cfg.specs.declared.ext_config.ExtConfig.{ExtConfig}
+use Rattle.usac_cfg.specs.declared.usac_config.UsacConfig.{UsacConfig}
+use Rattle.usac_frame.specs.declared.fault.FrameFault.{FrameFault}
+use Rattle.usac_frame.specs.declared.frame.Frame.{Frame}
+use Rattle.usac_frame.specs.declared.part.ExtPart.{ExtPart}
+use Rattle.usac_frame.specs.Faults.{is_memory}
+use Rattle.usac_frame.specs.Each.{FitEach, each_text, each, fitted}
+use Rattle.usac_frame.specs.Part.{flag, IsPart, part, part_text}
+
+-- the extension elements before the first other element
+abbrev pub leading : List ElementConfig → List ExtConfig
+leading [] = []
+leading (Single core s ∷ es) = []
+leading (Pair core s n m ∷ es) = []
+leading (Lfe ∷ es) = []
+leading (Ext e ∷ es) = e ∷ leading es
+
+abbrev pub leading_exts : UsacConfig → List ExtConfig
+leading_exts c = leading c.elements
+
+-- one part for each of these, which fits it
+abbrev pub FitParts : List ExtConfig → List ExtPart → Type 0
+FitParts = FitEach IsPart
+
+abbrev pub parts_text : List ExtConfig → List ExtPart → List Bool
+parts_text = each_text part_text
+
+abbrev pub parts : List ExtConfig → Layout (List ExtPart) FrameFault
+parts exts = each part exts
+
+-- A frame fits a configuration where it has one part for each leading extension element, which fits it.
+abbrev pub FitsConfig : UsacConfig → Frame → Type 0
+FitsConfig c f = FitParts (leading_exts c) f.leading
+
+-- usacIndependencyFlag, the parts, and all bits to the end
+abbrev pub frame : UsacConfig → Layout Frame FrameFault
+frame c = fitted (FitsConfig c)
+    (λ f. (f.independent, (f.leading, f.rest)))
+    (λ (independent, (leading, rest)). record { independent = independent; leading = leading; rest = rest })
+    (both flag (λ _. both (parts (leading_exts c)) (λ _. rest)))
+
+-- The spelling of a frame. An access unit is the frame whose spelling its bits are.
+abbrev pub frame_text : UsacConfig → Frame → List Bool
+frame_text c = let L = frame c in L.spelling
+
+-- the first fault of an access unit, of which all bits are to be a frame
+abbrev pub FrameFaults : UsacConfig → FrameFault → List Bool → Type 0
+FrameFaults c e bits = let L = frame c in L.Faults 0 e bits
+
+-- What reading an access unit with these bits promises.
+pub record ReadsFrame (c : UsacConfig) (bits : List Bool) (result : Result Frame FrameFault) : Type 0 where
+  -- what is read fits the configuration, and the access unit is this frame
+  pub found : IfOk result (λ f. FitsConfig c f × (bits ≡ frame_text c f))
+  -- the frame that the access unit is is read, unless memory fails
+  pub only : (f : Frame) → FitsConfig c f → bits ≡ frame_text c f → IfErr result (λ e. is_memory e ≡ true) × IfOk result (λ g. g ≡ f)
+  -- a fault is the first one, and the first one is answered
+  pub fault : IfErr result (λ e. is_memory e ≡ false → FrameFaults c e bits)
+  pub first : (e : FrameFault) → FrameFaults c e bits → IsErrAnd result (λ g. is_memory g ≡ false → g ≡ e)

@@ -1,0 +1,9 @@
+pub mod Faults
+pub mod Each
+pub mod Part
+pub mod Frame
+pub mod Units
+pub mod Laws
+pub mod EachExact
+pub mod PartExact
+pub mod FrameExact

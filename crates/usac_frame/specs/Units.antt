@@ -1,0 +1,40 @@
+-- What a decoder sees of a frame. The flag and the element are those of ISO/IEC 23003-3, UsacFrame and AudioPreRoll; that
+-- the zeros at the end are cut is this project's own.
+use Rattle.std.specs.Prelude.{ℕ, Bool, List, ◌++◌, length, take, drop, slice_get, if◌then◌else◌}
+use Rattle.std.specs.Option.{option_map_or}
+use Rattle.bit_core.specs.Trim.{trimmed}
+use Rattle.usac_cfg.specs.declared.usac_config.UsacConfig.{UsacConfig}
+use Rattle.usac_cfg.specs.UsacConfig.{declares_preroll}
+use Rattle.usac_frame.specs.declared.frame.Frame.{Frame}
+use Rattle.usac_frame.specs.declared.part.ExtPart.{ExtPart}
+use Rattle.usac_frame.specs.declared.part.ExtPart.TheVariants.{Absent, Present}
+use Rattle.usac_frame.specs.declared.unit.Unit.{Unit as UnitRecord}
+use Rattle.usac_frame.specs.Frame.{leading_exts, parts_text}
+
+-- a unit, by another name than the built-in type's: `independent`, and `bits` as a list of Bool
+abbrev pub UnitValue : Type 0
+UnitValue = UnitRecord
+
+-- how many parts are the preroll's: part 0, where element 0 is a preroll
+abbrev pub preroll_parts : UsacConfig → ℕ
+preroll_parts c = if declares_preroll c then 1 else 0
+
+-- the bits of the part of the preroll element
+abbrev pub preroll_text : UsacConfig → Frame → List Bool
+preroll_text c f = parts_text (take (preroll_parts c) (leading_exts c)) (take (preroll_parts c) f.leading)
+
+-- the bits behind it: the other parts, and the rest
+abbrev pub core_text : UsacConfig → Frame → List Bool
+core_text c f = parts_text (drop (preroll_parts c) (leading_exts c)) (drop (preroll_parts c) f.leading) ++ f.rest
+
+-- The unit of a frame: the flag, and the bits behind the preroll element, without the zeros at their end.
+abbrev pub unit_of : UsacConfig → Frame → UnitValue
+unit_of c f = record { independent = f.independent; bits = trimmed (core_text c f) }
+
+abbrev pub part_bytes : ExtPart → ℕ
+part_bytes Absent = 0
+part_bytes (Present form start stop payload) = length payload
+
+-- the number of bytes of the preroll
+abbrev pub payload_length : UsacConfig → Frame → ℕ
+payload_length c f = if declares_preroll c then option_map_or part_bytes (slice_get f.leading 0) 0 else 0
