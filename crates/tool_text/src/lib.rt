@@ -7,6 +7,7 @@
 
 mod element_lines;
 mod faults;
+mod frame_text;
 mod lines;
 mod mux_line;
 mod parts;
@@ -17,6 +18,7 @@ mod setting_lines;
 mod tests;
 
 pub use faults::{loas_refusal, mux_refusal};
+pub use frame_text::frame_line;
 pub use lines::configuration_lines;
 pub use mux_line::mux_lines;
 pub use refusal::{Place, Reason, Refusal};
