@@ -4,3 +4,5 @@ pub mod FrameLists
 pub mod Counting
 pub mod Scripts
 pub mod Steps
+pub mod FrameCounts
+pub mod Gathering

@@ -8,8 +8,11 @@
 mod event;
 mod fault;
 mod frame_reader;
+mod gathered;
 mod reader;
+mod whole;
 
 pub use event::Event;
 pub use fault::StreamFault;
 pub use reader::AuReader;
+pub use whole::read_stream;
