@@ -10,7 +10,7 @@ use Rattle.latm.specs.MuxElement.{then_in_force}
 use Rattle.latm.specs.Stream as streams
 use Rattle.au_stream.specs.Elements.{Carries}
 use Rattle.au_stream.specs.Frames.{frames_under, frames_from}
-use Rattle.au_stream.specs.Whole.{as_pair}
+use Rattle.au_stream.specs.Pairs.{as_pair}
 use Rattle.au_stream.proofs.Counting.{slots_fit}
 
 -- ---- the pairs of a stream

@@ -6,3 +6,4 @@ pub mod Scripts
 pub mod Steps
 pub mod FrameCounts
 pub mod Gathering
+pub mod Marks

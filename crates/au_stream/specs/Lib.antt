@@ -7,3 +7,4 @@ pub mod Giving
 pub mod Events
 pub mod Gathering
 pub mod Whole
+pub mod Pairs

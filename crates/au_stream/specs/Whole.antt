@@ -1,20 +1,15 @@
 -- What reading a source to its end answers, by its bytes.
 use Rattle.std.specs.Prelude.{◌≡◌, ℕ, ◌+◌, ◌≤◌, ◌⊎◌, Bool, true, List, [], ◌++◌, length, take, None, Result, Ok, Err}
 use Rattle.std.specs.Io.KnownBytes.{prepend_known, IsAtEnd}
-use Rattle.usac_cfg.specs.declared.usac_config.UsacConfig.{UsacConfig}
 use Rattle.latm.specs.Stream.{IsWellFormed}
 use Rattle.latm.specs.declared.stream.Stream.{Stream}
 use Rattle.au_stream.specs.declared.fault.StreamFault.{StreamFault}
 use Rattle.au_stream.specs.declared.fault.StreamFault.TheVariants.{ReadFault, Memory}
 use Rattle.au_stream.specs.Elements.{IsLongest}
-use Rattle.au_stream.specs.Frames.{Frame, config_of, frames_from}
+use Rattle.au_stream.specs.Frames.{Frame, frames_from}
 use Rattle.au_stream.specs.Script.{Mark, End, IsScript, IsOpen, most_bytes}
 use Rattle.au_stream.specs.Taking.{Seen}
 use Rattle.au_stream.specs.Events.{RefusesAt}
-
--- a frame as one of a stream: its configuration and its access unit
-abbrev pub as_pair : Frame → UsacConfig × List ℕ
-as_pair f = (config_of f, f.au)
 
 -- The input is the stream: its elements are the most that the input begins with, and nothing stands behind them.
 pub record IsStream (text : List ℕ) (stream : Stream) : Type 0 where

@@ -9,6 +9,7 @@ mod event;
 mod fault;
 mod frame_reader;
 mod gathered;
+pub mod laws;
 mod reader;
 mod whole;
 
