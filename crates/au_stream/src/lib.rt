@@ -11,6 +11,8 @@ mod frame_reader;
 mod gathered;
 pub mod laws;
 mod reader;
+#[cfg(test)]
+mod tests;
 mod whole;
 
 pub use event::Event;

@@ -1,5 +1,6 @@
 // All elements of a source.
-ghost use Rattle.std.specs.Prelude.{◌≡◌};
+ghost use Rattle.std.specs.Prelude.{◌≡◌, IfOk};
+ghost use Rattle.latm.specs.Stream.{IsWellFormed};
 ghost use Rattle.au_stream.specs.Taking.{seen, IsReadFault, Caused};
 ghost use Rattle.au_stream.specs.Whole.{ReadsWhole};
 
@@ -22,6 +23,7 @@ use std::alloc::Global;
 /// - `Memory`: want of memory.
 pub fn read_stream<S: Source>(alloc: Global, source: &mut S) -> Result<Stream, StreamFault>
     ensures reads { ReadsWhole (seen S.left S.faults source.old) (seen S.left S.faults source.new) result }
+    ensures well_formed { IfOk result (λ stream. IsWellFormed stream) }
     ensures caused { Caused (S.faults source.old) (S.faults source.new) result }
     ensures other { S.other source.new ≡ S.other source.old }
     ensures calm { S.calm source.old → S.calm source.new }

@@ -2,7 +2,7 @@ use Rattle.std.proofs.Common.{ℕ, List, rules, arith, None, subst, Err}
 use Rattle.au_stream.specs.Gathering.{Adds}
 use Rattle.std.proofs.lemmas.Result.{err_from_is_err_and}
 use Rattle.au_stream.proofs.FrameCounts.{frames_few}
-use Rattle.au_stream.proofs.Gathering.{gathers-next, whole-end, whole-unread, whole-refused}
+use Rattle.au_stream.proofs.Gathering.{gathers-next, whole-end, whole-unread, whole-refused, well_formed}
 use Rattle.au_stream.proofs.whole.read_stream.Goals as goal
 
 pub returns-in_err-length-clause-reads : goal.returns-in_err-length-clause-reads
@@ -37,3 +37,8 @@ pub returns-clause-reads : goal.returns-clause-reads
 returns-clause-reads g c =
     let next = rw c.in_default.is at c.in_ok-length.ensures in
     rw c.into_elements.ensures (whole-end _ _ _ _ _ _ c.frames.invariant.gathers next.takes next.limit)
+
+pub returns-clause-well_formed : goal.returns-clause-well_formed
+returns-clause-well_formed g c =
+    let s = c.frames.invariant.gathers in
+    rw c.into_elements.ensures (well_formed s.got (record { elements = c.frames.gathered }) c.frames.frames.held s.carried s.few)
