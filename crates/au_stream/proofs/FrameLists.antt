@@ -1,12 +1,12 @@
 -- The frames of lists of elements.
-use Rattle.std.proofs.Common.{◌≡◌, ℕ, ◌+◌, ◌≤◌, Bool, true, false, List, [], ◌∷◌, ◌++◌, length, Option, Some, None, refl, sym, ap, ◌∙◌, append_assoc, arith, inl, inr}
-use Rattle.std.specs.Prelude.{is_some, IsTrue, ◌↔◌}
+use Rattle.std.proofs.Common.{◌≡◌, List, [], ◌∷◌, ◌++◌, Option, Some, refl, sym, ap, ◌∙◌, append_assoc}
+use Rattle.std.specs.Prelude.{is_some}
 use Rattle.std.proofs.lemmas.List.{append-nil}
 use Rattle.latm.specs.declared.mux_config.MuxConfig.{MuxConfig}
 use Rattle.latm.specs.declared.mux_element.MuxElement.{MuxElement}
 use Rattle.latm.specs.MuxElement.{then_in_force}
 use Rattle.au_stream.specs.Elements.{in_force_behind}
-use Rattle.au_stream.specs.Frames.{Frame, config_of, frames_under, frames_from, last_of, IsChange}
+use Rattle.au_stream.specs.Frames.{Frame, frames_under, frames_from, last_of}
 
 pub frames-append : (before : Option MuxConfig) (es fs : List MuxElement) → frames_from before (es ++ fs) ≡ frames_from before es ++ frames_from (in_force_behind before es) fs
 frames-append before [] fs = refl

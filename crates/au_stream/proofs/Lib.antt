@@ -5,3 +5,6 @@ pub mod Counting
 pub mod Scripts
 pub mod Steps
 pub mod Small
+pub mod FrameCounts
+pub mod Gathering
+pub mod Marks

@@ -1,10 +1,9 @@
 -- Lists of elements that texts carry.
-use Rattle.std.proofs.Common.{◌≡◌, ℕ, zero, suc, ◌+◌, ◌<◌, ◌≤◌, Bool, List, [], ◌∷◌, ◌++◌, length, take, drop, Option, Some, None, Result, Ok, Err, refl, sym, ap, subst, ◌∙◌, append_assoc, arith, inl, inr}
+use Rattle.std.proofs.Common.{◌≡◌, ℕ, zero, suc, ◌<◌, ◌≤◌, List, [], ◌∷◌, ◌++◌, length, Option, None, Result, Ok, Err, refl, sym, ap, subst, ◌∙◌, append_assoc, arith, inl, inr}
 use Rattle.std.specs.Prelude.{◌⊎◌}
-use Rattle.std.proofs.lemmas.List.{length-append, append-nil, length-drop}
+use Rattle.std.proofs.lemmas.List.{length-append, append-nil}
 use Rattle.layout.specs.Text.{bits_of}
-use Rattle.layout.specs.Reader.{Reader, left, moved}
-use Rattle.layout.proofs.Layouts.{ok_is}
+use Rattle.layout.specs.Reader.{Reader}
 use Rattle.loas.specs.Framing.{framed, IsFrameBody, IsPartial, HasWrongSync}
 use Rattle.loas.specs.Cut.{Cut, Whole, Partial, Lost, cut_of}
 use Rattle.loas.proofs.Frames.{same_frame, whole_framed, cut-framed, partial_is}

@@ -1,23 +1,16 @@
 -- The script of a text, by the elements that a part of it carries and what stands behind them.
-use Rattle.std.proofs.Common.{◌≡◌, ℕ, zero, suc, ◌+◌, ◌-◌, ◌<◌, ◌≤◌, Bool, List, [], ◌∷◌, ◌++◌, length, take, drop, Option, Some, None, refl, sym, ap, subst, ◌∙◌, append_assoc, arith, inl, inr, All, Ok, Err, Result}
-use Rattle.std.specs.Prelude.{◌⊎◌}
-use Rattle.std.proofs.lemmas.Bool.{cases_lt}
-use Rattle.std.proofs.lemmas.List.{length-append, append-nil, take_all, length-drop}
+use Rattle.std.proofs.Common.{◌≡◌, ℕ, ◌+◌, ◌-◌, ◌<◌, ◌≤◌, List, [], ◌∷◌, ◌++◌, length, take, None, refl, sym, ap, subst, ◌∙◌, append_assoc, arith}
+use Rattle.std.proofs.lemmas.List.{length-append, append-nil, take_all}
 use Rattle.std.proofs.Math.Seq.{take-append-add}
 use Rattle.layout.specs.Text.{bits_of}
-use Rattle.layout.specs.Reader.{Reader}
-use Rattle.layout.proofs.Layouts.{err_is}
 use Rattle.loas.specs.Framing.{framed, IsFrameBody, IsPartial, HasWrongSync}
 use Rattle.loas.proofs.Frames.{partial_is}
-use Rattle.loas.proofs.Given.{partial-not_wrong}
-use Rattle.loas.proofs.Splitting.{partial_stuck, wrong_stuck}
 use Rattle.latm.specs.declared.fault.MuxFault.{MuxFault}
-use Rattle.latm.specs.declared.mux_config.MuxConfig.{MuxConfig}
 use Rattle.latm.specs.declared.mux_element.MuxElement.{MuxElement}
 use Rattle.latm.specs.MuxElement.{element}
-use Rattle.au_stream.specs.Elements.{IsElement, Carries, IsLongest, in_force_behind}
+use Rattle.au_stream.specs.Elements.{Carries, IsLongest, in_force_behind}
 use Rattle.au_stream.specs.Frames.{Frame, frames_from}
-use Rattle.au_stream.specs.Script.{most_bytes, Mark, End, SyncLost, BadElement, Truncated, TooLarge, IsMark, HasFrames, IsScript, IsOpen}
+use Rattle.au_stream.specs.Script.{most_bytes, Mark, End, SyncLost, BadElement, Truncated, TooLarge, HasFrames, IsScript, IsOpen}
 use Rattle.au_stream.proofs.Runs.{carries_more, stuck_longest, first_of_longest, exists_longest, partial_none, wrong_none, wrong_more, faulty_none}
 use Rattle.au_stream.proofs.FrameLists.{frames-append}
 
@@ -37,11 +30,11 @@ carried_on whole more es held le c =
     subst (λ (t : List ℕ). Carries None t es (held ++ x)) (sym (counted whole more le)) (carries_more None whole es held x c)
 
 -- the elements of the whole text, behind which none stands
-all_longest : (whole : List ℕ) (es : List MuxElement) (held : List ℕ) → length whole ≤ most_bytes → Carries None whole es held → IsPartial held → IsLongest (take most_bytes whole) es held
+pub all_longest : (whole : List ℕ) (es : List MuxElement) (held : List ℕ) → length whole ≤ most_bytes → Carries None whole es held → IsPartial held → IsLongest (take most_bytes whole) es held
 all_longest whole es held le c p =
     subst (λ (t : List ℕ). IsLongest t es held) (sym (all_counted whole le)) (stuck_longest whole es held c (partial_none (in_force_behind None es) held p))
 
-partial-empty : IsPartial []
+pub partial-empty : IsPartial []
 partial-empty = partial_is [] refl
 
 pub script_end : (whole : List ℕ) (es : List MuxElement) (held : List ℕ) → length whole ≤ most_bytes → Carries None whole es held → held ≡ [] → IsScript whole (frames_from None es) End

@@ -1,12 +1,12 @@
 -- What a reader has given, from call to call.
-use Rattle.std.proofs.Common.{◌≡◌, ℕ, suc, ◌+◌, ◌<◌, ◌≤◌, Bool, true, false, List, [], ◌∷◌, ◌++◌, length, take, drop, Option, Some, None, Result, Ok, Err, refl, sym, ap, subst, ◌∙◌, append_assoc, append-nil, arith, inl, inr}
-use Rattle.std.specs.Prelude.{is_some, IsTrue, IsErr, ◌↔◌, ◌≢◌, reverse}
+use Rattle.std.proofs.Common.{◌≡◌, ℕ, ◌+◌, ◌<◌, ◌≤◌, Bool, true, false, List, [], ◌∷◌, ◌++◌, length, take, drop, Option, Some, None, Result, Ok, Err, refl, sym, ap, subst, ◌∙◌, append_assoc, append-nil, arith, inl}
+use Rattle.std.specs.Prelude.{is_some, IsTrue, IsErr, ◌↔◌, reverse}
 use Rattle.std.specs.Option.{option_map}
-use Rattle.std.specs.Io.KnownBytes.{prepend_known, IsAtEnd}
+use Rattle.std.specs.Io.KnownBytes.{prepend_known}
 use Rattle.std.proofs.lemmas.List.{length-append, length-drop}
 use Rattle.layout.specs.Text.{bits_of}
-use Rattle.loas.specs.Framing.{framed, IsFrameBody, IsPartial, HasWrongSync, BeginsWithFrame}
-use Rattle.loas.specs.Framer.{Framer, grown, pushed, past_frame}
+use Rattle.loas.specs.Framing.{BeginsWithFrame}
+use Rattle.loas.specs.Framer.{Framer, grown, pushed}
 use Rattle.loas.specs.declared.fault.LoasFault.TheVariants as loas
 use Rattle.loas.proofs.Given.{begins-fits, begins-length}
 use Rattle.latm.specs.declared.fault.MuxFault.{MuxFault}
@@ -22,9 +22,9 @@ use Rattle.au_stream.specs.Elements.{IsElement, Carries, in_force_behind}
 use Rattle.au_stream.specs.Frames.{Frame, config_of, frames_under, frames_from, last_of, IsChange}
 use Rattle.au_stream.specs.Script.{most_bytes, Mark, End, SyncLost, BadElement, Truncated, HasFrames, IsScript, IsOpen}
 use Rattle.au_stream.specs.Reading.{Reading, pending_frames, KnowsChange, Holds, HasRead}
-use Rattle.au_stream.specs.Giving.{Changes, with_element, past, refused_element, TookElement, TakesElement, Gave, weight}
-use Rattle.au_stream.specs.Taking.{Seen, Takes, IsNeeded}
-use Rattle.au_stream.specs.Events.{IsEvent, Answers, RefusesAt, GivenBy, Reads}
+use Rattle.au_stream.specs.Giving.{Changes, refused_element, TookElement, TakesElement, Gave, weight}
+use Rattle.au_stream.specs.Taking.{Seen, Takes}
+use Rattle.au_stream.specs.Events.{IsEvent, Answers, GivenBy, Reads}
 use Rattle.au_stream.proofs.Counting.{some_in_force, slots_fit}
 use Rattle.au_stream.proofs.FrameLists.{frames-push, last-push}
 use Rattle.au_stream.proofs.Runs.{carries_more, carries_push, in_force-push}

@@ -5,3 +5,6 @@ pub mod Taking
 pub mod Reading
 pub mod Giving
 pub mod Events
+pub mod Gathering
+pub mod Whole
+pub mod Pairs

@@ -1,5 +1,5 @@
 -- What a reader of access units holds, and what it has given.
-use Rattle.std.specs.Prelude.{◌≡◌, ℕ, ◌≤◌, Bool, true, false, not, List, [], ◌∷◌, ◌++◌, length, Option, Some, None, IsTrue, ◌↔◌}
+use Rattle.std.specs.Prelude.{◌≡◌, ℕ, ◌≤◌, Bool, false, List, [], ◌∷◌, ◌++◌, length, Option, None, IsTrue, ◌↔◌}
 use Rattle.std.specs.Option.{option_map}
 use Rattle.latm.specs.declared.mux_config.MuxConfig.{MuxConfig}
 use Rattle.latm.specs.declared.mux_element.MuxElement.{MuxElement}

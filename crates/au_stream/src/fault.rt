@@ -1,6 +1,7 @@
 // Why a source gives no next frame.
 ghost use Rattle.std.specs.Prelude.{◌≡◌};
 ghost use Rattle.au_stream.specs.declared.fault.StreamFault.TheVariants.{Memory};
+ghost use Rattle.au_stream.specs.Giving.{refused_element};
 
 use latm::MuxFault;
 use loas::LoasFault;
@@ -33,5 +34,15 @@ impl From<AllocError> for StreamFault {
 
     fn from(error: AllocError) -> StreamFault {
         StreamFault::Memory(error)
+    }
+}
+
+/// Why the element of the frame with that number is not read.
+pub fn refused(frame: u64, fault: MuxFault) -> StreamFault
+    ensures { result ≡ refused_element frame fault }
+{
+    match fault {
+        MuxFault::Memory(error) => StreamFault::Memory(error),
+        fault => StreamFault::Mux { frame, fault },
     }
 }

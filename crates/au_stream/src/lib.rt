@@ -8,8 +8,14 @@
 mod event;
 mod fault;
 mod frame_reader;
+mod gathered;
+pub mod laws;
 mod reader;
+#[cfg(test)]
+mod tests;
+mod whole;
 
 pub use event::Event;
 pub use fault::StreamFault;
 pub use reader::AuReader;
+pub use whole::read_stream;

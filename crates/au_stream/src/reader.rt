@@ -8,15 +8,15 @@ ghost use Rattle.au_stream.specs.Frames.{Frame, last_of};
 ghost use Rattle.au_stream.specs.Script.{most_bytes};
 ghost use Rattle.au_stream.specs.Taking.{seen, IsReadFault, Caused};
 ghost use Rattle.au_stream.specs.Reading.{HasRead};
-ghost use Rattle.au_stream.specs.Giving.{Changes, with_element, refused_element, TakesElement, Gave, Falls, IsSmall};
+ghost use Rattle.au_stream.specs.Giving.{Changes, with_element, TakesElement, Gave, Falls, IsSmall};
 ghost use Rattle.au_stream.specs.Events.{Reads};
 
 use crate::event::Event;
-use crate::fault::StreamFault;
+use crate::fault::{StreamFault, refused};
 use crate::frame_reader::FrameReader;
 use asc::Asc;
 use bit_core::Octets;
-use latm::{MuxConfig, MuxElement, MuxFault, read_element};
+use latm::{MuxConfig, MuxElement, read_element};
 use outside::Source;
 use std::alloc::Global;
 use std::marker::Model;
@@ -60,16 +60,6 @@ impl Model for AuReader {
     } };
 
     ghost invariant = { λ r. (r.count + vec_len r.pending ≤ r.frames.passed) × (pushed r.frames ≤ most_bytes) × FitsOption IsWellFormed r.in_force };
-}
-
-// Why no frame is given where the element of the frame with that number is not read.
-fn refused(frame: u64, fault: MuxFault) -> StreamFault
-    ensures { result ≡ refused_element frame fault }
-{
-    match fault {
-        MuxFault::Memory(error) => StreamFault::Memory(error),
-        fault => StreamFault::Mux { frame, fault },
-    }
 }
 
 // Whether a StreamMuxConfig changes the UsacConfig in force.

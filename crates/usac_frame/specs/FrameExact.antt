@@ -121,3 +121,21 @@ split_at_preroll c f fits =
     let k = preroll_parts c in
     let exts = leading_exts c in
     ap (λ (t : List Bool). f.independent ∷ (t ++ f.rest)) (text_split k exts f.leading) ∙ ap (λ (t : List Bool). f.independent ∷ t) (append_assoc (parts_text (take k exts) (take k f.leading)) (parts_text (drop k exts) (drop k f.leading)) f.rest)
+
+-- ---- the frame of an access unit
+
+start_of : List ℕ → Reader
+start_of au = record { text = bits_of au; at = 0 }
+
+read_is : (c : UsacConfig) (au : List ℕ) (f : Frame) (q : Result (Frame × Reader) FrameFault) → (frame c).read (record { text = bits_of au; at = 0 }) ≡ q → value_read q ≡ Some f → IsFrame c au f
+read_is c au f (Ok x) is e =
+    let t = (frame_exact c).takes (record { text = bits_of au; at = 0 }) x.1 x.0 is in
+    let same : x.0 ≡ f = cc e in
+    subst (λ (g : Frame). IsFrame c au g) same (record { fits = t.0; spelled = t.1 })
+read_is c au f (Err e) is no = absurd cc
+
+pub frame_of_is : IsFrameOf
+frame_of_is = record {
+  is = λ c au f e. read_is c au f ((frame c).read (record { text = bits_of au; at = 0 })) refl e;
+  found = λ c au f is. ap value_read ((frame_exact c).again (record { text = bits_of au; at = 0 }) f is.fits is.spelled);
+}

@@ -3,6 +3,7 @@ pub mod Each
 pub mod Part
 pub mod Frame
 pub mod Units
+pub mod AccessUnit
 pub mod Laws
 pub mod EachExact
 pub mod PartExact

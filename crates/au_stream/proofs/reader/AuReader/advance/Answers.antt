@@ -1,5 +1,4 @@
-use Rattle.std.proofs.Common.{◌≡◌, List, [], ℕ, length, rules, arith, ap, ◌∙◌, sym, subst}
-use Rattle.std.specs.Prelude.{reverse}
+use Rattle.std.proofs.Common.{◌≡◌, length, rules}
 use Rattle.std.proofs.lemmas.Result.{err_from_is_err_and}
 use Rattle.au_stream.proofs.Steps.{no_items, reads_pending, reads_next, reads_end, reads_refused, reads_untaken, falls_pending, falls_next}
 use Rattle.au_stream.proofs.reader.AuReader.advance.Goals.{then-is_empty+in_ok-length+in-Some+in_ok-take_element, else-is_empty}

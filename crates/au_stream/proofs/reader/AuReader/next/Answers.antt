@@ -1,4 +1,4 @@
-use Rattle.std.proofs.Common.{◌≡◌, rules, false, Bool, ◌∙◌}
+use Rattle.std.proofs.Common.{rules, ◌∙◌}
 use Rattle.au_stream.proofs.Small.{small}
 use Rattle.au_stream.proofs.Steps.{reads_marked}
 use Rattle.au_stream.proofs.reader.AuReader.next.Goals as goal

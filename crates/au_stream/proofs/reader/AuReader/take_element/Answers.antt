@@ -1,9 +1,6 @@
-use Rattle.std.proofs.Common.{◌≡◌, length, take, drop, arith, rules, ap, ◌∙◌, subst, sym, Option, Err}
+use Rattle.std.proofs.Common.{◌≡◌, length, take, drop, arith, rules, ap, ◌∙◌, subst, sym, Err}
 use Rattle.std.specs.Option.{option_copied}
-use Rattle.layout.specs.Text.{bits_of}
 use Rattle.loas.proofs.Given.{begins-length}
-use Rattle.latm.specs.declared.mux_config.MuxConfig.{MuxConfig}
-use Rattle.latm.specs.MuxElement.{element}
 use Rattle.au_stream.specs.Elements.{IsElement}
 use Rattle.au_stream.specs.Giving.{TakesElement, refused_element}
 use Rattle.au_stream.proofs.Counting.{slots_fit}
