@@ -10,7 +10,7 @@ use Rattle.latm.specs.declared.mux_element.MuxElement.{MuxElement}
 use Rattle.latm.specs.MuxElement.{element}
 use Rattle.au_stream.specs.Elements.{Carries, IsLongest, in_force_behind}
 use Rattle.au_stream.specs.Frames.{Frame, frames_from}
-use Rattle.au_stream.specs.Script.{most_bytes, Mark, End, SyncLost, BadElement, Truncated, TooLarge, HasFrames, IsScript, IsOpen}
+use Rattle.au_stream.specs.Script.{most_bytes, Mark, End, SyncLost, BadElement, Truncated, TooLarge, IsMark, HasFrames, IsScript, IsOpen}
 use Rattle.au_stream.proofs.Runs.{carries_more, stuck_longest, first_of_longest, exists_longest, partial_none, wrong_none, wrong_more, faulty_none}
 use Rattle.au_stream.proofs.FrameLists.{frames-append}
 

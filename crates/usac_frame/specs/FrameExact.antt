@@ -1,5 +1,5 @@
 -- A frame is read exactly, and what follows from it.
-use Rattle.std.proofs.Common.{◌≡◌, ℕ, zero, suc, ◌-◌, ◌%◌, Bool, false, List, [], ◌∷◌, ◌++◌, length, take, drop, replicate, Result, Ok, Err, refl, sym, ap, ◌∙◌, append_assoc, arith, inl, inr}
+use Rattle.std.proofs.Common.{◌≡◌, ℕ, zero, suc, ◌-◌, ◌%◌, Bool, false, List, [], ◌∷◌, ◌++◌, length, take, drop, replicate, Result, Ok, Err, refl, sym, ap, subst, ◌∙◌, append_assoc, arith, inl, inr}
 use Rattle.std.specs.Prelude.{◌⊎◌}
 use Rattle.layout.specs.Reader.{Reader}
 use Rattle.layout.specs.Layout.{both, shaped}
@@ -22,6 +22,9 @@ use Rattle.usac_frame.specs.Part.{flag, IsPart, part, part_text}
 use Rattle.usac_frame.specs.Frame.{leading, leading_exts, parts_text, parts, frame, frame_text, FrameFaults, ReadsFrame}
 use Rattle.usac_frame.specs.Units.{preroll_parts}
 use Rattle.usac_frame.specs.Laws.{IsSpelledOnce, IsSomeFrame, IsDecided, with_zeros, IsReadBack, HasPartOfEach, IsSplitAtPreroll}
+use Rattle.usac_frame.specs.AccessUnit.{IsFrame, IsFrameOf, value_read}
+use Rattle.layout.specs.Text.{bits_of}
+use Rattle.std.specs.Prelude.{ℕ, Option, Some, None}
 use Rattle.usac_frame.specs.EachExact.{each-exact}
 use Rattle.usac_frame.specs.PartExact.{flag-exact, part_exact}
 
@@ -124,15 +127,12 @@ split_at_preroll c f fits =
 
 -- ---- the frame of an access unit
 
-start_of : List ℕ → Reader
-start_of au = record { text = bits_of au; at = 0 }
-
 read_is : (c : UsacConfig) (au : List ℕ) (f : Frame) (q : Result (Frame × Reader) FrameFault) → (frame c).read (record { text = bits_of au; at = 0 }) ≡ q → value_read q ≡ Some f → IsFrame c au f
 read_is c au f (Ok x) is e =
     let t = (frame_exact c).takes (record { text = bits_of au; at = 0 }) x.1 x.0 is in
     let same : x.0 ≡ f = cc e in
     subst (λ (g : Frame). IsFrame c au g) same (record { fits = t.0; spelled = t.1 })
-read_is c au f (Err e) is no = absurd cc
+read_is c au f (Err e) is never = absurd cc
 
 pub frame_of_is : IsFrameOf
 frame_of_is = record {

@@ -1,6 +1,7 @@
 //! What holds of every frame.
 //!
 //! The functions run no code; their contracts are the theorems.
+ghost use Rattle.usac_frame.specs.AccessUnit.{IsFrameOf};
 ghost use Rattle.usac_frame.specs.Laws.{IsSpelledOnce, IsDecided, IsReadBack, HasPartOfEach, IsSplitAtPreroll};
 
 /// An access unit is at most one frame of a configuration.
@@ -27,4 +28,9 @@ pub fn frames_have_a_part_for_each_element()
 /// the zeros at their end are cut.
 pub fn frames_are_split_at_the_preroll()
     ensures { IsSplitAtPreroll }
+{}
+
+/// The frame that is read off an access unit is the frame that it is.
+pub fn access_units_are_their_frames()
+    ensures { IsFrameOf }
 {}

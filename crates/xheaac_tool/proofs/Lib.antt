@@ -1,4 +1,3 @@
-pub mod FirstBits
 pub mod Handing
 pub mod Going
 pub mod Endings

@@ -1,5 +1,5 @@
 -- Lemmas on lines that are written one after another.
-use Rattle.std.proofs.Common.{◌≡◌, ℕ, zero, suc, ◌+◌, ◌<◌, List, [], ◌∷◌, ◌++◌, length, take, drop, get_or, Bool, true, Option, Err, inl, inr, refl, sym, ap, subst, ◌∙◌, append_assoc, arith}
+use Rattle.std.proofs.Common.{◌≡◌, ℕ, zero, suc, ◌+◌, ◌<◌, List, [], ◌∷◌, ◌++◌, length, take, drop, get_or, Bool, true, Option, Err, inl, inr, refl, sym, ap, subst, ◌∙◌, append_assoc, arith, Some}
 use Rattle.std.specs.Io.KnownBytes.{append_known}
 use Rattle.std.proofs.lemmas.Bool.{cases_lt}
 use Rattle.std.proofs.lemmas.List.{take_all, take-append-le, take_at}
@@ -11,9 +11,26 @@ use Rattle.core_iface.specs.Answering.{Meaning}
 use Rattle.outside.specs.declared.fault.DeviceFault.{DeviceFault}
 use Rattle.outside.specs.declared.fault.DeviceFault.TheVariants as devices
 use Rattle.tool_text.specs.MuxLine.{lines_of_mux}
-use Rattle.au_stream.specs.Frames.{Frame}
+use Rattle.layout.specs.Text.{bits_of}
+use Rattle.usac_cfg.specs.declared.usac_config.UsacConfig.{UsacConfig}
+use Rattle.usac_frame.specs.declared.frame.Frame.{Frame as UsacFrame}
+use Rattle.usac_frame.specs.declared.fault.FrameFault.TheVariants as faults
+use Rattle.usac_frame.specs.Frame.{FrameFaults}
+use Rattle.usac_frame.specs.AccessUnit.{IsFrame, frame_of}
+use Rattle.usac_frame.specs.FrameExact.{decided, frame_of_is}
+use Rattle.tool_text.specs.FrameLine.{frame_line}
+use Rattle.tool_text.specs.declared.refusal.Refusal.{Refusal}
+use Rattle.tool_text.specs.declared.refusal.Place.TheVariants as places
+use Rattle.tool_text.specs.declared.refusal.Reason.TheVariants as reasons
+use Rattle.au_stream.specs.declared.event.Event.{Event}
+use Rattle.au_stream.specs.Events.{IsEvent}
+use Rattle.au_stream.specs.Frames.{Frame, config_of}
 use Rattle.xheaac_tool.specs.OneFrame.{Handles, DidFrame, DidPart, from_device}
-use Rattle.xheaac_tool.specs.Showing.{joined, shown_where, show_job}
+use Rattle.xheaac_tool.specs.Output.{IsTooShort}
+use Rattle.xheaac_tool.specs.Reading.{ReadsUnit}
+use Rattle.xheaac_tool.specs.declared.frame_end.FrameEnd.{FrameEnd}
+use Rattle.xheaac_tool.specs.declared.frame_end.FrameEnd.TheVariants as ends
+use Rattle.xheaac_tool.specs.Showing.{joined, mux_where, line_where, shown_of, show_job}
 use Rattle.xheaac_tool.proofs.Handing.{append-append}
 
 -- a front of a front
@@ -52,35 +69,82 @@ part_of_line before mid after lines i line bytes lt e is_line so_far part =
 
 -- ---- a frame of `show`
 
+-- the lines of a mux
+pub lines_all : (before after : Option (List ℕ)) (mux : MuxConfig) (lines : List (List ℕ)) → lines ≡ lines_of_mux mux → after ≡ append_known before (joined lines) → after ≡ append_known before (mux_where true mux)
+lines_all before after mux lines is written = written ∙ ap (λ (x : List (List ℕ)). append_known before (joined x)) is
+
+pub lines_part : (before after : Option (List ℕ)) (mux : MuxConfig) (lines : List (List ℕ)) → lines ≡ lines_of_mux mux → WrotePart before after (joined lines) → WrotePart before after (mux_where true mux)
+lines_part before after mux lines is part = subst (λ (x : List (List ℕ)). WrotePart before after (joined x)) is part
+
+-- what is written of a frame
+text_is : (number : ℕ) (f : Frame) (bytes : ℕ) (opens : Bool) (mux : MuxConfig) (event_number : ℕ) (g : UsacFrame) → opens ≡ f.opens → mux ≡ f.mux → event_number ≡ number → bytes ≡ length f.au → frame_of (config_of f) f.au ≡ Some g
+    → mux_where opens mux ++ frame_line event_number bytes g ≡ shown_of number f
+text_is number f bytes opens mux event_number g o m n b found =
+    ap (λ (x : Bool). mux_where x mux ++ frame_line event_number bytes g) o
+    ∙ ap (λ (x : MuxConfig). mux_where f.opens x ++ frame_line event_number bytes g) m
+    ∙ ap (λ (x : ℕ). mux_where f.opens f.mux ++ frame_line x bytes g) n
+    ∙ ap (λ (x : ℕ). mux_where f.opens f.mux ++ frame_line number x g) b
+    ∙ ap (λ (x : Option UsacFrame). mux_where f.opens f.mux ++ line_where number (length f.au) x) (sym found)
+
+frame_is : (f : Frame) (config : UsacConfig) (au : List ℕ) (g : UsacFrame) → config ≡ config_of f → au ≡ f.au → IsFrame config au g → IsFrame (config_of f) f.au g
+frame_is f config au g c a is = subst (λ (x : List ℕ). IsFrame (config_of f) x g) a (subst (λ (x : UsacConfig). IsFrame x au g) c is)
+
+-- no frame is too short
+pub not_short : (before : List Frame) (f : Frame) (config : UsacConfig) (au : List ℕ) (g : UsacFrame) → config ≡ config_of f → au ≡ f.au → IsFrame config au g → (r : Refusal) → IsTooShort before f r → ⊥
+not_short before f config au g c a is r short =
+    let i = frame_is f config au g c a is in
+    decided.not_both (config_of f) (bits_of f.au) (faults.Short short.at) (g, i.fits, i.spelled) short.fault
+
+pub too_short : (before : List Frame) (f : Frame) (config : UsacConfig) (au : List ℕ) (number : ℕ) (at : ℕ) (r : Refusal) → config ≡ config_of f → au ≡ f.au → number ≡ length before → FrameFaults config (faults.Short at) (bits_of au)
+    → r ≡ record { place = places.FrameBit number at; reason = reasons.FrameTooShort } → IsTooShort before f r
+too_short before f config au number at r c a n bad is = record {
+  at = at;
+  fault = subst (λ (x : List ℕ). FrameFaults (config_of f) (faults.Short at) (bits_of x)) a (subst (λ (x : UsacConfig). FrameFaults x (faults.Short at) (bits_of au)) c bad);
+  refusal = is ∙ ap (λ (k : ℕ). record { place = places.FrameBit k at; reason = reasons.FrameTooShort }) n;
+}
+
 -- a frame of which a part was written
-pub show_stopped : (d : Definitions) (before : List Frame) (f : Frame) (m : Meaning) (w0 w1 : Option (List ℕ)) (mux : MuxConfig) (fault : DeviceFault) → f.opens ≡ true → mux ≡ f.mux → WrotePart w0 w1 (shown_where true mux)
-    → Handles (show_job d) before f m m w0 w1 (Err (from_device fault))
-show_stopped d before f m w0 w1 mux fault opens is part = by_fault fault
+pub show_stopped : (d : Definitions) (before : List Frame) (f : Frame) (m : Meaning) (w0 w1 : Option (List ℕ)) (event : Event) (mux : MuxConfig) (g : UsacFrame) (fault : DeviceFault) → IsEvent before f event → mux ≡ f.mux → IsFrame mux.asc.usac event.au g
+    → WrotePart w0 w1 (mux_where event.opens mux ++ frame_line event.frame (length event.au) g) → Handles (show_job d) before f m m w0 w1 (Err (from_device fault))
+show_stopped d before f m w0 w1 event mux g fault e is frame part = by_fault fault
   where
     did : DidPart (show_job d) before f m m w0 w1
-    did = record {
-      takes = λ r no. no;
-      fed = omega arith;
-      written = subst (λ (o : Bool). WrotePart w0 w1 (shown_where o f.mux)) (sym opens) (subst (λ (x : MuxConfig). WrotePart w0 w1 (shown_where true x)) is part);
-    }
+    did =
+        let config : mux.asc.usac ≡ config_of f = ap (λ (x : MuxConfig). x.asc.usac) is in
+        let found = frame_of_is.found (config_of f) f.au g (frame_is f mux.asc.usac event.au g config e.au frame) in
+        record {
+          takes = not_short before f mux.asc.usac event.au g config e.au frame;
+          fed = omega arith;
+          written = subst (λ (x : List ℕ). WrotePart w0 w1 x) (text_is (length before) f (length event.au) event.opens mux event.frame g e.opens is e.number (ap (λ (x : List ℕ). length x) e.au) found) part;
+        }
 
     by_fault : (x : DeviceFault) → Handles (show_job d) before f m m w0 w1 (Err (from_device x))
     by_fault devices.Failed = did
-    by_fault (devices.Memory e) = inl did
+    by_fault (devices.Memory x) = inl did
 
 -- a frame that was shown
-pub show_did : (d : Definitions) (before : List Frame) (f : Frame) (m : Meaning) (w0 w1 : Option (List ℕ)) (mux : MuxConfig) → mux ≡ f.mux → w1 ≡ append_known w0 (shown_where f.opens mux) → DidFrame (show_job d) before f m m w0 w1
-show_did d before f m w0 w1 mux is written = record {
-  takes = λ r no. no;
-  ready = refl;
-  needed = tt;
-  fed = omega arith;
-  written = written ∙ ap (λ (x : MuxConfig). append_known w0 (shown_where f.opens x)) is;
-}
+pub show_did : (d : Definitions) (before : List Frame) (f : Frame) (m : Meaning) (w0 w1 : Option (List ℕ)) (event : Event) (mux : MuxConfig) (g : UsacFrame) → IsEvent before f event → mux ≡ f.mux → IsFrame mux.asc.usac event.au g
+    → w1 ≡ append_known w0 (mux_where event.opens mux ++ frame_line event.frame (length event.au) g) → DidFrame (show_job d) before f m m w0 w1
+show_did d before f m w0 w1 event mux g e is frame written =
+    let config : mux.asc.usac ≡ config_of f = ap (λ (x : MuxConfig). x.asc.usac) is in
+    let found = frame_of_is.found (config_of f) f.au g (frame_is f mux.asc.usac event.au g config e.au frame) in
+    record {
+      takes = not_short before f mux.asc.usac event.au g config e.au frame;
+      ready = refl;
+      needed = tt;
+      fed = omega arith;
+      written = written ∙ ap (λ (x : List ℕ). append_known w0 x) (text_is (length before) f (length event.au) event.opens mux event.frame g e.opens is e.number (ap (λ (x : List ℕ). length x) e.au) found);
+    }
 
--- the lines of a mux
-pub lines_all : (before after : Option (List ℕ)) (mux : MuxConfig) (lines : List (List ℕ)) → lines ≡ lines_of_mux mux → after ≡ append_known before (joined lines) → after ≡ append_known before (shown_where true mux)
-lines_all before after mux lines is written = written ∙ ap (λ (x : List (List ℕ)). append_known before (joined x)) is
+-- a frame that was not read
+pub show_unread : (d : Definitions) (before : List Frame) (f : Frame) (m : Meaning) (w : Option (List ℕ)) (event : Event) (mux : MuxConfig) (end : FrameEnd) → IsEvent before f event → mux ≡ f.mux → ReadsUnit event.frame mux.asc.usac event.au (Err end)
+    → Handles (show_job d) before f m m w w (Err end)
+show_unread d before f m w event mux (ends.Refused r) e is bad =
+    (too_short before f mux.asc.usac event.au event.frame bad.0 r (ap (λ (x : MuxConfig). x.asc.usac) is) e.au e.number bad.1 bad.2, refl, refl)
+show_unread d before f m w event mux ends.WriteFault e is bad = absurd bad
+show_unread d before f m w event mux ends.CoreFault e is bad = absurd bad
+show_unread d before f m w event mux (ends.Memory x) e is bad = inr (record { fed = omega arith; written = refl })
 
-pub lines_part : (before after : Option (List ℕ)) (mux : MuxConfig) (lines : List (List ℕ)) → lines ≡ lines_of_mux mux → WrotePart before after (joined lines) → WrotePart before after (shown_where true mux)
-lines_part before after mux lines is part = subst (λ (x : List (List ℕ)). WrotePart before after (joined x)) is part
+-- the lines of a mux and the line behind them
+pub both_all : (w0 w1 w2 : Option (List ℕ)) (a b : List ℕ) → w1 ≡ append_known w0 a → w2 ≡ append_known w1 b → w2 ≡ append_known w0 (a ++ b)
+both_all w0 w1 w2 a b one two = two ∙ ap (λ (x : Option (List ℕ)). append_known x b) one ∙ append-append w0 a b

@@ -1,11 +1,20 @@
 -- One frame of `play`.
-use Rattle.std.proofs.Common.{◌≡◌, ℕ, zero, suc, ◌+◌, ◌<◌, true, false, List, [], ◌∷◌, ◌++◌, length, Option, Some, None, Err, ℤ, refl, sym, ap, subst, ◌∙◌, arith, inl}
-use Rattle.std.specs.Prelude.{IsSome}
+use Rattle.std.proofs.Common.{◌≡◌, ℕ, zero, suc, ◌+◌, ◌<◌, true, false, List, [], ◌∷◌, ◌++◌, length, Option, Some, None, Err, ℤ, refl, sym, ap, subst, ◌∙◌, arith, inl, ◌≤◌, inr}
+use Rattle.std.specs.Prelude.{IsSome, IsTrue}
 use Rattle.std.specs.Io.KnownBytes.{append_known}
-use Rattle.layout.specs.Text.{bits_of}
 use Rattle.usac_cfg.specs.declared.usac_config.UsacConfig.{UsacConfig}
 use Rattle.usac_cfg.specs.UsacConfig.{IsWellFormed}
-use Rattle.usac_frame.specs.Units.{UnitValue}
+use Rattle.usac_frame.specs.declared.frame.Frame.{Frame as UsacFrame}
+use Rattle.usac_frame.specs.Units.{UnitValue, unit_of}
+use Rattle.usac_frame.specs.AccessUnit.{IsFrame, unit_where, unit_in}
+use Rattle.usac_frame.specs.FrameExact.{spelled_once, frame_of_is}
+use Rattle.tool_text.specs.declared.refusal.Refusal.{Refusal}
+use Rattle.au_stream.specs.declared.event.Event.{Event}
+use Rattle.au_stream.specs.Events.{IsEvent}
+use Rattle.xheaac_tool.specs.declared.frame_end.FrameEnd.{FrameEnd}
+use Rattle.xheaac_tool.specs.declared.frame_end.FrameEnd.TheVariants as ends
+use Rattle.xheaac_tool.specs.Reading.{ReadsUnit, IsJudgement, Judges}
+use Rattle.xheaac_tool.proofs.Lines.{not_short, too_short}
 use Rattle.core_iface.specs.Decoding.{Definitions}
 use Rattle.core_iface.specs.Answering.{Running, Meaning, stepped, emitted}
 use Rattle.core_iface.specs.Samples.{sample_bytes}
@@ -14,14 +23,9 @@ use Rattle.outside.specs.declared.fault.DeviceFault.TheVariants as devices
 use Rattle.au_stream.specs.Frames.{Frame, config_of}
 use Rattle.xheaac_tool.specs.Commands.{Takes}
 use Rattle.xheaac_tool.specs.Handing.{WrotePart}
-use Rattle.xheaac_tool.specs.OneFrame.{IsOpenable, ServesReset, Handles, DidFrame, DidPart, from_device}
-use Rattle.xheaac_tool.specs.Output.{first_bit, unit_of, IsServed}
+use Rattle.xheaac_tool.specs.OneFrame.{CausedBy, IsOpenable, ServesReset, Handles, DidFrame, DidPart, from_device}
+use Rattle.xheaac_tool.specs.Output.{at_frame, IsTooShort, IsLater, IsNoStart, PlayRefuses, Changes, TooShort, NoStart, IsServed}
 use Rattle.xheaac_tool.specs.Stepping.{reset_of, set_up, play_job}
-
-pub first_some : (au : List ℕ) → first_bit (bits_of au) ≡ true → 0 < length au
-unfolding bits_of
-first_some [] e = absurd (let f : false ≡ true = e in cc)
-first_some (x ∷ au) e = omega arith
 
 -- how the core is reset before a frame
 pub reset_is : (before : List Frame) (f : Frame) (frame : ℕ) (reset : Option UsacConfig) (config : UsacConfig) → frame ≡ length before → (frame ≡ 0 → reset ≡ Some config) → (0 < frame → reset ≡ None) → config ≡ config_of f → reset ≡ reset_of before f
@@ -37,7 +41,7 @@ serves d [] f s = s
 serves d (g ∷ before) f s = tt
 
 -- the sample bytes that a frame gives
-pub bytes_are : (d : Definitions) (before : List Frame) (f : Frame) (ready : Option Running) (reset : Option UsacConfig) (unit : UnitValue) (samples_old samples : List ℤ) (bytes_old bytes : List ℕ) → reset ≡ reset_of before f → unit ≡ unit_of f.au
+pub bytes_are : (d : Definitions) (before : List Frame) (f : Frame) (ready : Option Running) (reset : Option UsacConfig) (unit : UnitValue) (samples_old samples : List ℤ) (bytes_old bytes : List ℕ) → reset ≡ reset_of before f → unit ≡ unit_in (config_of f) f.au
     → samples_old ≡ [] → samples ≡ samples_old ++ emitted d (set_up d ready reset) unit → bytes_old ≡ [] → bytes ≡ bytes_old ++ sample_bytes samples → bytes ≡ (let j = play_job d in j.bytes before ready f)
 bytes_are d before f ready reset unit samples_old samples bytes_old bytes is unit-is none emits nothing pushed =
     pushed ∙ ap (λ (x : List ℕ). x ++ sample_bytes samples) nothing
@@ -57,7 +61,7 @@ play_stopped d before f old new w0 w1 bytes fault takes fed is part = by_fault f
 
 -- a frame that was played
 pub play_did : (d : Definitions) (before : List Frame) (f : Frame) (old new : Meaning) (w0 w1 : Option (List ℕ)) (reset : Option UsacConfig) (unit : UnitValue) (bytes : List ℕ) → (let j = play_job d in Takes j.command before f)
-    → reset ≡ reset_of before f → unit ≡ unit_of f.au → new.ready ≡ stepped d (set_up d old.ready reset) unit → IsSome new.ready → new.fed ≡ old.fed + 1 → bytes ≡ (let j = play_job d in j.bytes before old.ready f) → w1 ≡ append_known w0 bytes
+    → reset ≡ reset_of before f → unit ≡ unit_in (config_of f) f.au → new.ready ≡ stepped d (set_up d old.ready reset) unit → IsSome new.ready → new.fed ≡ old.fed + 1 → bytes ≡ (let j = play_job d in j.bytes before old.ready f) → w1 ≡ append_known w0 bytes
     → DidFrame (play_job d) before f old new w0 w1
 play_did d before f old new w0 w1 reset unit bytes takes is unit-is ready some fed bytes-are written = record {
   takes = takes;
@@ -66,3 +70,79 @@ play_did d before f old new w0 w1 reset unit bytes takes is unit-is ready some f
   fed = fed;
   written = written ∙ ap (λ (x : List ℕ). append_known w0 x) bytes-are;
 }
+
+-- ---- which frames are taken
+
+first_frame : (before : List Frame) → length before ≡ 0 → before ≡ []
+first_frame [] e = refl
+first_frame (g ∷ before) e = absurd (omega arith)
+
+pub later_change : (before : List Frame) (f : Frame) (event : Event) → IsEvent before f event → IsTrue event.changed → 0 < event.frame → IsLater before f
+later_change [] f event e changed some = absurd (omega (arith, e.number, some))
+later_change (g ∷ before) f event e changed some = e.changed.0 changed
+
+pub no_change : (before : List Frame) (f : Frame) (event : Event) → IsEvent before f event → event.changed ≡ false → IsLater before f → ⊥
+no_change [] f event e same later = later
+no_change (g ∷ before) f event e same later = let never : false ≡ true = sym same ∙ e.changed.1 later in cc
+
+pub no_later : (before : List Frame) (f : Frame) (event : Event) → IsEvent before f event → event.frame ≤ 0 → IsLater before f → ⊥
+no_later [] f event e none later = later
+no_later (g ∷ before) f event e none later = omega (arith, e.number, none)
+
+-- the frame is not read
+pub unread : (before : List Frame) (f : Frame) (event : Event) (config : UsacConfig) (end : FrameEnd) → IsEvent before f event → config ≡ config_of f → (IsLater before f → ⊥) → ReadsUnit event.frame config event.au (Err end) → Judges before f (Err end)
+unread before f event config (ends.Refused r) e c goes_on bad = TooShort goes_on (too_short before f config event.au event.frame bad.0 r c e.au e.number bad.1 bad.2)
+unread before f event config ends.WriteFault e c goes_on bad = absurd bad
+unread before f event config ends.CoreFault e c goes_on bad = absurd bad
+unread before f event config (ends.Memory x) e c goes_on bad = tt
+
+frame_here : (f : Frame) (config : UsacConfig) (au : List ℕ) (g : UsacFrame) → config ≡ config_of f → au ≡ f.au → IsFrame config au g → IsFrame (config_of f) f.au g
+frame_here f config au g c a is = subst (λ (x : List ℕ). IsFrame (config_of f) x g) a (subst (λ (x : UsacConfig). IsFrame x au g) c is)
+
+-- it is no start
+pub no_start_here : (before : List Frame) (f : Frame) (event : Event) (config : UsacConfig) (g : UsacFrame) (r : Refusal) → IsEvent before f event → config ≡ config_of f → event.frame ≡ 0 → IsFrame config event.au g → IsNoStart config g r → PlayRefuses before f r
+no_start_here before f event config g r e c zero_is is bad =
+    NoStart (first_frame before (sym e.number ∙ zero_is)) g (frame_here f config event.au g c e.au is) (subst (λ (x : UsacConfig). IsNoStart x g r) c bad)
+
+-- it is taken
+pub taken : (before : List Frame) (f : Frame) (event : Event) (config : UsacConfig) (g : UsacFrame) → IsEvent before f event → config ≡ config_of f → (IsLater before f → ⊥) → IsFrame config event.au g → (event.frame ≡ 0 → (r : Refusal) → IsNoStart config g r → ⊥)
+    → (r : Refusal) → PlayRefuses before f r → ⊥
+taken before f event config g e c goes_on is start r (Changes later why) = goes_on later
+taken before f event config g e c goes_on is start r (TooShort same short) = not_short before f config event.au g c e.au is r short
+taken before f event config g e c goes_on is start r (NoStart first h here bad) =
+    let i = frame_here f config event.au g c e.au is in
+    let same : g ≡ h = spelled_once (config_of f) g h i.fits here.fits (sym i.spelled ∙ here.spelled) in
+    let none : event.frame ≡ 0 = e.number ∙ ap (λ (x : List Frame). length x) first in
+    start none r (subst (λ (x : UsacFrame). IsNoStart config x r) (sym same) (subst (λ (x : UsacConfig). IsNoStart x h r) (sym c) bad))
+
+-- a frame that was not taken
+pub play_untaken : (d : Definitions) (before : List Frame) (f : Frame) (m : Meaning) (w : Option (List ℕ)) (end : FrameEnd) → Judges before f (Err end) → Handles (play_job d) before f m m w w (Err end)
+play_untaken d before f m w (ends.Refused r) j = (j, refl, refl)
+play_untaken d before f m w ends.WriteFault j = absurd j
+play_untaken d before f m w ends.CoreFault j = absurd j
+play_untaken d before f m w (ends.Memory x) j = inr (record { fed = omega arith; written = refl })
+
+-- the unit of a frame that was read
+pub unit_here : (f : Frame) (config : UsacConfig) (au : List ℕ) (g : UsacFrame) (unit : UnitValue) → config ≡ config_of f → au ≡ f.au → IsFrame config au g → unit ≡ unit_of config g → unit ≡ unit_in (config_of f) f.au
+unit_here f config au g unit c a is made =
+    let found = frame_of_is.found (config_of f) f.au g (frame_here f config au g c a is) in
+    made ∙ ap (λ (x : UsacConfig). unit_of x g) c ∙ ap (λ (o : Option UsacFrame). unit_where (config_of f) o) (sym found)
+
+-- a refusal of a frame is no fault of a device or of the core
+pub judged_caused : (out core : ℕ) (end : FrameEnd) → IsJudgement end → CausedBy out out core core (Err end)
+judged_caused out core (ends.Refused r) j = (refl, refl)
+judged_caused out core ends.WriteFault j = absurd j
+judged_caused out core ends.CoreFault j = absurd j
+judged_caused out core (ends.Memory e) j = (refl, refl)
+
+pub judged_no_write : (end : FrameEnd) → IsJudgement end → end ≡ ends.WriteFault → ⊥
+judged_no_write (ends.Refused r) j e = cc
+judged_no_write ends.WriteFault j e = j
+judged_no_write ends.CoreFault j e = j
+judged_no_write (ends.Memory x) j e = cc
+
+pub judged_no_core : (end : FrameEnd) → IsJudgement end → end ≡ ends.CoreFault → ⊥
+judged_no_core (ends.Refused r) j e = cc
+judged_no_core ends.WriteFault j e = j
+judged_no_core ends.CoreFault j e = j
+judged_no_core (ends.Memory x) j e = cc

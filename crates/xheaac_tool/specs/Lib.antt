@@ -5,6 +5,7 @@ pub mod Stepping
 pub mod Showing
 pub mod Outputs
 pub mod Handing
+pub mod Reading
 pub mod OneFrame
 pub mod Words
 pub mod Asked

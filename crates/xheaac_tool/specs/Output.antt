@@ -1,29 +1,24 @@
--- What `play` writes for the frames of a stream.
-use Rattle.std.specs.Prelude.{◌≡◌, ◌≢◌, ◌⊎◌, ℕ, Bool, true, false, List, [], ◌∷◌, length, drop, map, ℤ}
+-- What `play` writes for the frames of a stream, and which of them it refuses.
+use Rattle.std.specs.Prelude.{◌≡◌, ◌⊎◌, ◌<◌, ℕ, Bool, false, true, List, [], ◌∷◌, length, map, ℤ}
 use Rattle.layout.specs.Text.{bits_of}
-use Rattle.bit_core.specs.Trim.{trimmed}
 use Rattle.usac_cfg.specs.declared.usac_config.UsacConfig.{UsacConfig}
-use Rattle.usac_cfg.specs.UsacConfig.{leading}
-use Rattle.usac_frame.specs.Units.{UnitValue}
+use Rattle.usac_frame.specs.declared.frame.Frame.{Frame as UsacFrame}
+use Rattle.usac_frame.specs.declared.fault.FrameFault.TheVariants as faults
+use Rattle.usac_frame.specs.Frame.{FrameFaults}
+use Rattle.usac_frame.specs.AccessUnit.{IsFrame, unit_in}
+use Rattle.usac_frame.specs.Units.{UnitValue, payload_length}
 use Rattle.core_iface.specs.Decoding.{Definitions, out, samples_of}
 use Rattle.core_iface.specs.Samples.{sample_bytes}
 use Rattle.tool_text.specs.declared.refusal.Place.TheVariants as places
+use Rattle.tool_text.specs.declared.refusal.Reason.{Reason}
 use Rattle.tool_text.specs.declared.refusal.Reason.TheVariants as reasons
 use Rattle.tool_text.specs.declared.refusal.Refusal.{Refusal}
 use Rattle.au_stream.specs.Frames.{Frame, config_of, last_of, IsChange}
 use Rattle.xheaac_tool.specs.Commands.{Command}
 
--- the first bit of a text
-abbrev pub first_bit : List Bool → Bool
-first_bit [] = false
-first_bit (b ∷ t) = b
-
--- The unit of an access unit: usacIndependencyFlag, and the bits behind it without the zeros at their end.
-abbrev pub unit_of : List ℕ → UnitValue
-unit_of au = record { independent = first_bit (bits_of au); bits = trimmed (drop 1 (bits_of au)) }
-
+-- the units of the frames' access units
 abbrev pub units_of : List Frame → List UnitValue
-units_of frames = map (λ frame. unit_of frame.au) frames
+units_of frames = map (λ f. unit_in (config_of f) f.au) frames
 
 -- the samples of a core's blocks over units, decoded from the start of a stream
 abbrev pub decoded : Definitions → UsacConfig → List UnitValue → List ℤ
@@ -34,21 +29,34 @@ abbrev pub output : Definitions → List Frame → List ℕ
 output d [] = []
 output d (f ∷ fs) = sample_bytes (decoded d (config_of f) (units_of (f ∷ fs)))
 
--- A frame that `play` does not take yet: a first one that is not independent or whose configuration has a leading extension
--- element; a later one that is empty or has another configuration than the one before.
-abbrev pub IsNotBuilt : List Frame → Frame → Type 0
-IsNotBuilt [] f = (first_bit (bits_of f.au) ≡ false) ⊎ (leading (config_of f) ≢ 0)
-IsNotBuilt (g ∷ before) f = (f.au ≡ []) ⊎ IsChange (last_of (g ∷ before)) f
+abbrev pub at_frame : ℕ → Reason → Refusal
+at_frame frame reason = record { place = places.Frame frame; reason = reason }
 
-abbrev pub not_built : ℕ → Refusal
-not_built frame = record { place = places.Frame frame; reason = reasons.FormNotBuilt }
+-- The access unit of a frame is no frame of its configuration, and has its first fault at that bit.
+pub record IsTooShort (before : List Frame) (f : Frame) (r : Refusal) : Type 0 where
+  pub at : ℕ
+  pub fault : FrameFaults (config_of f) (faults.Short at) (bits_of f.au)
+  pub refusal : r ≡ record { place = places.FrameBit (length before) at; reason = reasons.FrameTooShort }
 
-abbrev pub play_refuses : List Frame → Frame → Refusal → Type 0
-play_refuses before f r = IsNotBuilt before f × (r ≡ not_built (length before))
+-- the configuration is another one than that of the frame before
+abbrev pub IsLater : List Frame → Frame → Type 0
+IsLater [] f = ⊥
+IsLater (g ∷ before) f = IsChange (last_of (g ∷ before)) f
+
+-- A start is refused: a frame with a preroll is not taken yet, and one without has to be independent.
+abbrev pub IsNoStart : UsacConfig → UsacFrame → Refusal → Type 0
+IsNoStart c g r = ((0 < payload_length c g) × (r ≡ at_frame 0 reasons.FormNotBuilt)) ⊎ ((payload_length c g ≡ 0) × (g.independent ≡ false) × (r ≡ at_frame 0 reasons.NotIndependent))
+
+-- Why `play` refuses a frame behind those before it: it does not take another configuration yet; the frame is too short; it
+-- is no start.
+pub data PlayRefuses (before : List Frame) (f : Frame) (r : Refusal) : Type 0 where
+  Changes : IsLater before f → r ≡ at_frame (length before) reasons.FormNotBuilt → PlayRefuses before f r
+  TooShort : (IsLater before f → ⊥) → IsTooShort before f r → PlayRefuses before f r
+  NoStart : before ≡ [] → (g : UsacFrame) → IsFrame (config_of f) f.au g → IsNoStart (config_of f) g r → PlayRefuses before f r
 
 -- `play` writes the sample bytes of frames, each of which it feeds to the core.
 abbrev pub playing : Definitions → Command
-playing d = record { Refuses = play_refuses; output = output d; feeds = true }
+playing d = record { Refuses = PlayRefuses; output = output d; feeds = true }
 
 -- the core serves the configuration of a frame
 abbrev pub IsServed : Definitions → Frame → Type 0

@@ -1,22 +1,25 @@
 -- The steps of each command give its output.
-use Rattle.std.proofs.Common.{◌≡◌, ℕ, List, [], ◌∷◌, ◌++◌, Option, refl, sym, ap, ◌∙◌}
+use Rattle.std.proofs.Common.{◌≡◌, ℕ, List, [], ◌∷◌, ◌++◌, length, ◌+◌, Option, refl, sym, ap, ◌∙◌}
+use Rattle.std.proofs.lemmas.List.{length-append}
 use Rattle.core_iface.specs.Decoding.{Definitions}
 use Rattle.core_iface.specs.Answering.{Running, running, stepped, emitted, emitted_over, emitted_over-running}
 use Rattle.core_iface.specs.Samples.{sample_bytes, sample_bytes-append}
 use Rattle.au_stream.specs.Frames.{Frame, config_of}
 use Rattle.xheaac_tool.specs.Jobs.{GivesOutput, bytes_through}
-use Rattle.xheaac_tool.specs.Output.{unit_of, units_of}
+use Rattle.usac_frame.specs.AccessUnit.{unit_in}
+use Rattle.xheaac_tool.specs.Output.{units_of}
 use Rattle.xheaac_tool.specs.Stepping.{play_job}
-use Rattle.xheaac_tool.specs.Showing.{show_job}
+use Rattle.xheaac_tool.specs.Showing.{shown_of, shown_from, show_job}
 
 -- ---- show
 
+shown : (d : Definitions) (ready : Option Running) (before fs : List Frame) → bytes_through (show_job d) before ready fs ≡ shown_from (length before) fs
+shown d ready before [] = refl
+shown d ready before (f ∷ fs) =
+    ap (λ (xs : List ℕ). shown_of (length before) f ++ xs) (shown d ready (before ++ f ∷ []) fs ∙ ap (λ (n : ℕ). shown_from n fs) (length-append before (f ∷ [])))
+
 pub show_gives : (d : Definitions) → GivesOutput (show_job d)
-show_gives d ready frames takes = shown [] frames
-  where
-    shown : (before fs : List Frame) → bytes_through (show_job d) before ready fs ≡ (let j = show_job d in j.command.output fs)
-    shown before [] = refl
-    shown before (f ∷ fs) = ap (λ (xs : List ℕ). let j = show_job d in j.bytes before ready f ++ xs) (shown (before ++ f ∷ []) fs)
+show_gives d ready frames takes = shown d ready [] frames
 
 -- ---- play
 
@@ -24,7 +27,7 @@ show_gives d ready frames takes = shown [] frames
 emitted_on : (d : Definitions) (g : Frame) (before : List Frame) (ready : Option Running) (fs : List Frame) → bytes_through (play_job d) (g ∷ before) ready fs ≡ sample_bytes (emitted_over d ready (units_of fs))
 emitted_on d g before ready [] = refl
 emitted_on d g before ready (f ∷ fs) =
-    let u = unit_of f.au in
+    let u = unit_in (config_of f) f.au in
     ap (λ (xs : List ℕ). sample_bytes (emitted d ready u) ++ xs) (emitted_on d g (before ++ f ∷ []) (stepped d ready u) fs) ∙ sym (sample_bytes-append (emitted d ready u) (emitted_over d (stepped d ready u) (units_of fs)))
 
 pub play_gives : (d : Definitions) → GivesOutput (play_job d)
@@ -32,6 +35,6 @@ play_gives d ready [] takes = refl
 play_gives d ready (f ∷ fs) takes =
     let config = config_of f in
     let r = running config (d.init config) in
-    let u = unit_of f.au in
+    let u = unit_in (config_of f) f.au in
     ap (λ (xs : List ℕ). sample_bytes (emitted d r u) ++ xs) (emitted_on d f [] (stepped d r u) fs) ∙ sym (sample_bytes-append (emitted d r u) (emitted_over d (stepped d r u) (units_of fs)))
     ∙ ap sample_bytes (emitted_over-running d config (d.init config) (u ∷ units_of fs))

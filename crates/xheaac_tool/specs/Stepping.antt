@@ -6,7 +6,8 @@ use Rattle.core_iface.specs.Answering.{Running, running, stepped, emitted}
 use Rattle.core_iface.specs.Samples.{sample_bytes}
 use Rattle.au_stream.specs.Frames.{Frame, config_of}
 use Rattle.xheaac_tool.specs.Jobs.{Job}
-use Rattle.xheaac_tool.specs.Output.{unit_of, playing}
+use Rattle.usac_frame.specs.AccessUnit.{unit_in}
+use Rattle.xheaac_tool.specs.Output.{playing}
 
 -- the configuration to which the core is reset before a frame: before the first one alone
 abbrev pub reset_of : List Frame → Frame → Option UsacConfig
@@ -21,7 +22,7 @@ set_up d ready (Some config) = running config (d.init config)
 abbrev pub play_job : Definitions → Job
 play_job d = record {
   command = playing d;
-  step = λ before ready f. stepped d (set_up d ready (reset_of before f)) (unit_of f.au);
-  bytes = λ before ready f. sample_bytes (emitted d (set_up d ready (reset_of before f)) (unit_of f.au));
+  step = λ before ready f. stepped d (set_up d ready (reset_of before f)) (unit_in (config_of f) f.au);
+  bytes = λ before ready f. sample_bytes (emitted d (set_up d ready (reset_of before f)) (unit_in (config_of f) f.au));
   Needs = λ ready. IsSome ready;
 }

@@ -18,7 +18,7 @@ mod show;
 mod shown;
 mod task;
 mod top;
-mod unit;
+mod unit_frame;
 mod words;
 
 pub use outcome::Outcome;

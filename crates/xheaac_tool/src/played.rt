@@ -1,20 +1,22 @@
 // `play`, frame by frame: from an access unit to the sample bytes on the output.
-ghost use Rattle.std.specs.Prelude.{◌≡◌, ◌≢◌, ◌++◌, ◌+◌, ◌-◌, ◌^◌, ◌≤◌, ◌<◌, List, true, false, Err, length, IsSome, IsTrue, OnOk, OnErr, Some, None};
+ghost use Rattle.std.specs.Prelude.{◌≡◌, ◌≢◌, ◌++◌, ◌+◌, ◌-◌, ◌^◌, ◌≤◌, ◌<◌, List, true, false, Err, length, IsSome, IfOk, IfErr, IfSome, OnOk, OnErr, Some, None};
 ghost use Rattle.std.specs.Option.{option_copied};
 ghost use Rattle.causes.specs.Counts.{HasCause};
 ghost use Rattle.core_iface.specs.Answering.{stepped, emitted};
 ghost use Rattle.core_iface.specs.Faults.{has_failed};
-ghost use Rattle.layout.specs.Text.{bits_of};
-ghost use Rattle.au_stream.specs.Frames.{Frame, config_of};
+ghost use Rattle.usac_frame.specs.AccessUnit.{IsFrame};
+ghost use Rattle.tool_text.specs.declared.refusal.Refusal.{Refusal as RefusalValue};
+ghost use Rattle.au_stream.specs.Frames.{Frame as StreamFrame, config_of};
 ghost use Rattle.au_stream.specs.Events.{IsEvent};
-ghost use Rattle.xheaac_tool.specs.Output.{first_bit, IsNotBuilt};
+ghost use Rattle.xheaac_tool.specs.Output.{at_frame, IsLater, IsNoStart};
+ghost use Rattle.xheaac_tool.specs.Reading.{IsJudgement, Judges};
 ghost use Rattle.xheaac_tool.specs.Stepping.{set_up};
 ghost use Rattle.xheaac_tool.specs.OneFrame.{Decodes, IsOpenable, ServesReset};
 
 use crate::frame_end::FrameEnd;
 use crate::give::give_all;
 use crate::task::Task;
-use crate::unit::make_unit;
+use crate::unit_frame::read_unit_frame;
 use au_stream::Event;
 use core_iface::{Core, CoreFault, Unit, push_sample_bytes};
 use latm::MuxConfig;
@@ -22,30 +24,60 @@ use outside::Sink;
 use std::alloc::Global;
 use tool_text::{Place, Reason, Refusal};
 use usac_cfg::UsacConfig;
+use usac_frame::{Frame, payload_length, unit_of};
 
 /// The frames of `play`.
 pub struct Play;
 
-fn begins_with_one(bytes: &[u8]) -> bool
-    ensures { result ≡ first_bit (bits_of bytes.now) }
+/// The refusal of a frame with that number, for that reason.
+fn at_frame(frame: u64, reason: Reason) -> Refusal
+    ensures { result ≡ at_frame frame reason }
 {
-    match bytes {
-        [] => false,
-        [first, ..] => *first >> 7 == 1,
+    Refusal {
+        place: Place::Frame(frame),
+        reason,
     }
 }
 
-/// Whether `play` takes the frame.
-fn takes(event: &Event, config: &UsacConfig) -> bool
-    ensures some { result ≡ true → 0 < length event.now.au }
-    ensures taken { (before : List Frame) (f : Frame) → IsEvent before f event.now → config.now ≡ config_of f → result ≡ true → IsNotBuilt before f → ⊥ }
-    ensures refused { (before : List Frame) (f : Frame) → IsEvent before f event.now → config.now ≡ config_of f → result ≡ false → IsNotBuilt before f }
+/// Why a frame is no start, if it is none.
+fn no_start(config: &UsacConfig, frame: &Frame) -> Option<Refusal>
+    ensures none { result ≡ None → (r : RefusalValue) → IsNoStart config.now frame.now r → ⊥ }
+    ensures some { IfSome result (λ r. IsNoStart config.now frame.now r) }
 {
-    let au = event.au.as_slice();
-    if event.frame == 0 {
-        return config.leading() == 0 && begins_with_one(au);
+    if payload_length(config, frame) > 0 {
+        return Some(at_frame(0, Reason::FormNotBuilt));
     }
-    !event.changed && !au.is_empty()
+    if !frame.independent {
+        return Some(at_frame(0, Reason::NotIndependent));
+    }
+    None
+}
+
+/// Whether a frame behind others has another configuration than the one before.
+fn changes(event: &Event) -> bool
+    ensures changes { (before : List StreamFrame) (f : StreamFrame) → IsEvent before f event.now → result ≡ true → IsLater before f }
+    ensures goes_on { (before : List StreamFrame) (f : StreamFrame) → IsEvent before f event.now → result ≡ false → IsLater before f → ⊥ }
+{
+    event.changed && event.frame > 0
+}
+
+/// Reads the frame of an event, if `play` takes it.
+fn read_taken(alloc: Global, event: &Event, config: &UsacConfig) -> Result<Frame, FrameEnd>
+    requires { length event.now.au ≤ 8191 }
+    ensures frame { IfOk result (λ g. IsFrame config.now event.now.au g) }
+    ensures judged { IfErr result IsJudgement }
+    ensures judges { (before : List StreamFrame) (f : StreamFrame) → IsEvent before f event.now → config.now ≡ config_of f → Judges before f result }
+{
+    if changes(event) {
+        return Err(FrameEnd::Refused(at_frame(event.frame, Reason::FormNotBuilt)));
+    }
+    let frame = read_unit_frame(alloc, event.frame, config, event.au.as_slice())?;
+    if event.frame == 0 {
+        if let Some(refusal) = no_start(config, &frame) {
+            return Err(FrameEnd::Refused(refusal));
+        }
+    }
+    Ok(frame)
 }
 
 /// The configuration to which the core is reset before a frame.
@@ -97,13 +129,8 @@ impl Task for Play {
         core: &mut C,
     ) -> Result<(), FrameEnd> {
         let config = &mux.asc.usac;
-        if !takes(event, config) {
-            return Err(FrameEnd::Refused(Refusal {
-                place: Place::Frame(event.frame),
-                reason: Reason::FormNotBuilt,
-            }));
-        }
-        let unit = make_unit(alloc, event.au.as_slice())?;
+        let frame = read_taken(alloc, event, config)?;
+        let unit = unit_of(alloc, config, &frame)?;
         let mut samples = Vec::new(alloc);
         decode(alloc, reset_of(event, config), &unit, core, &mut samples)?;
         let mut bytes = Vec::new(alloc);

@@ -1,0 +1,39 @@
+-- What reading the frame of an access unit answers.
+use Rattle.std.specs.Prelude.{◌≡◌, ℕ, List, Result, Ok, Err, Option, Some}
+use Rattle.layout.specs.Text.{bits_of}
+use Rattle.usac_cfg.specs.declared.usac_config.UsacConfig.{UsacConfig}
+use Rattle.usac_frame.specs.declared.frame.Frame.{Frame as UsacFrame}
+use Rattle.usac_frame.specs.declared.fault.FrameFault.TheVariants as faults
+use Rattle.usac_frame.specs.Frame.{FrameFaults}
+use Rattle.usac_frame.specs.AccessUnit.{IsFrame}
+use Rattle.tool_text.specs.declared.refusal.Place.TheVariants as places
+use Rattle.tool_text.specs.declared.refusal.Reason.TheVariants as reasons
+use Rattle.tool_text.specs.declared.refusal.Refusal.{Refusal}
+use Rattle.au_stream.specs.Frames.{Frame}
+use Rattle.xheaac_tool.specs.Output.{PlayRefuses}
+use Rattle.xheaac_tool.specs.declared.frame_end.FrameEnd.{FrameEnd}
+use Rattle.xheaac_tool.specs.declared.frame_end.FrameEnd.TheVariants as ends
+
+-- The frame that the access unit with that number is, or its first fault as a refusal, or want of memory.
+abbrev pub ReadsUnit : ℕ → UsacConfig → List ℕ → Result UsacFrame FrameEnd → Type 0
+ReadsUnit number c au (Ok g) = IsFrame c au g
+ReadsUnit number c au (Err (ends.Refused r)) =
+    (at : ℕ) × FrameFaults c (faults.Short at) (bits_of au) × (r ≡ record { place = places.FrameBit number at; reason = reasons.FrameTooShort })
+ReadsUnit number c au (Err ends.WriteFault) = ⊥
+ReadsUnit number c au (Err ends.CoreFault) = ⊥
+ReadsUnit number c au (Err (ends.Memory e)) = Unit {0}
+
+-- not a fault of a device or of the core
+abbrev pub IsJudgement : FrameEnd → Type 0
+IsJudgement (ends.Refused r) = Unit {0}
+IsJudgement ends.WriteFault = ⊥
+IsJudgement ends.CoreFault = ⊥
+IsJudgement (ends.Memory e) = Unit {0}
+
+-- What `play` says of a frame behind those before it: it takes it, or refuses it for that reason, or memory fails.
+abbrev pub Judges : List Frame → Frame → Result UsacFrame FrameEnd → Type 0
+Judges before f (Ok g) = (r : Refusal) → PlayRefuses before f r → ⊥
+Judges before f (Err (ends.Refused r)) = PlayRefuses before f r
+Judges before f (Err ends.WriteFault) = ⊥
+Judges before f (Err ends.CoreFault) = ⊥
+Judges before f (Err (ends.Memory e)) = Unit {0}
