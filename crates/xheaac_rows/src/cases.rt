@@ -12,13 +12,25 @@ use xheaac_tool::run;
 pub const PLAIN: &[u8] =
     b"\x56\xE0\x0B\x20\x00\xF9\x46\x23\x21\x01\x0F\xF0\x06\x80\x56\xE0\x03\x80\x88\x00";
 
+// The same frames as two slots of one element.
+pub const TWO_SLOTS: &[u8] = b"\x56\xE0\x0D\x20\x80\xF9\x46\x23\x21\x01\x0F\xF0\x06\x80\x04\x40";
+
+// The first frame in a mux of version 1: 3 bits stand behind its UsacConfig, latmBufferFullness is 192, the number of bits of
+// other data is 5 in two bytes, and crcCheckSum is C3.
+pub const VERSION_1: &[u8] =
+    b"\x56\xE0\x12\x47\xFC\x00\x01\x67\xCA\x31\x19\x08\x0A\x8C\x0A\x00\x0B\xC3\x01\xA0\xB0";
+
 // One frame, whose configuration has an extension element before the other one, and an identifier of the stream.
 pub const DECLARED: &[u8] =
     b"\x56\xE0\x10\x20\x00\xF9\x46\x23\x21\x1C\xC0\x18\xE4\x00\x02\x3F\xC0\x1A\x00";
 
-// The two frames, and the first of them again.
+// The two frames, and the first of them again: its samples are then 20, 21, .. 1043.
 pub const REOPENED: &[u8] =
     b"\x56\xE0\x0B\x20\x00\xF9\x46\x23\x21\x01\x0F\xF0\x06\x80\x56\xE0\x03\x80\x88\x00\x56\xE0\x0B\x20\x00\xF9\x46\x23\x21\x01\x0F\xF0\x06\x80";
+
+// The two frames, and the one of `DECLARED`.
+pub const CHANGED: &[u8] =
+    b"\x56\xE0\x0B\x20\x00\xF9\x46\x23\x21\x01\x0F\xF0\x06\x80\x56\xE0\x03\x80\x88\x00\x56\xE0\x10\x20\x00\xF9\x46\x23\x21\x1C\xC0\x18\xE4\x00\x02\x3F\xC0\x1A\x00";
 
 // The first frame, and one whose access unit is empty.
 pub const EMPTIED: &[u8] =
@@ -26,6 +38,17 @@ pub const EMPTIED: &[u8] =
 
 // The first frame with an access unit that is not independent.
 pub const DEPENDENT: &[u8] = b"\x56\xE0\x0B\x20\x00\xF9\x46\x23\x21\x01\x0F\xF0\x04\x80";
+
+// The two slots, and three elements that are refused: the syncword is not there; the second slot has no length; a new mux
+// begins, and its audioMuxVersionA is 1.
+pub const TWO_SLOTS_LOST: &[u8] =
+    b"\x56\xE0\x0D\x20\x80\xF9\x46\x23\x21\x01\x0F\xF0\x06\x80\x04\x40\x56\xC0";
+
+pub const TWO_SLOTS_SHORT: &[u8] =
+    b"\x56\xE0\x0D\x20\x80\xF9\x46\x23\x21\x01\x0F\xF0\x06\x80\x04\x40\x56\xE0\x03\x80\x88\x00";
+
+pub const TWO_SLOTS_REFUSED: &[u8] =
+    b"\x56\xE0\x0D\x20\x80\xF9\x46\x23\x21\x01\x0F\xF0\x06\x80\x04\x40\x56\xE0\x01\x60";
 
 pub const USAGE: &str =
     "usage: xheaac show|check|play FILE | start FILE FRAME | plan|splice|switch FILE POS [FILE POS]... | insert FILE K FADE TARGETS | strip FILE TAIL TARGETS | make START FRAMES\n";
@@ -39,7 +62,7 @@ pub struct Case<'a> {
     pub failing_writes: &'a [u64],
     pub failing_notes: &'a [u64],
     pub status: u8,
-    /// How many bytes of the samples of the two frames are written.
+    /// How many bytes of the samples of the three frames of `REOPENED` are written.
     pub written: usize,
     pub note: &'a str,
     pub fed: u64,
@@ -57,10 +80,10 @@ pub const WHOLE: Case<'static> = Case {
     fed: 2,
 };
 
-// The bytes of the samples of both frames.
+// The bytes of the samples of the three frames of `REOPENED`.
 pub fn samples(alloc: Global) -> Result<Vec<u8>, AllocError> {
     let mut bytes = Vec::new(alloc);
-    for first in [2u16, 13] {
+    for first in [2u16, 13, 20] {
         for time in 0..1024u16 {
             bytes.extend_from_slice(&first.wrapping_add(time).to_le_bytes())?;
         }
@@ -97,7 +120,7 @@ pub fn check_output<C: Core>(
     Ok(())
 }
 
-// The same, where the output is so many bytes of the samples of the two frames.
+// The same, where the output is so many bytes of the samples of those frames.
 pub fn check<C: Core>(
     rt: &(impl Abort + AllocGlobal),
     piece: usize,

@@ -9,6 +9,8 @@ pub use failing_core::FailingCore;
 #[cfg(test)]
 mod cases;
 #[cfg(test)]
+mod refusals;
+#[cfg(test)]
 mod rows;
 #[cfg(test)]
 mod shown;

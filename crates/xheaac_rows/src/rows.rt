@@ -3,7 +3,8 @@ ghost use Rattle.std.specs.Prelude.{◌≤◌};
 
 use crate::FailingCore;
 use crate::cases::{
-    Case, DECLARED, DEPENDENT, EMPTIED, PLAIN, REOPENED, USAGE, WHOLE, check, ended, samples,
+    CHANGED, Case, DECLARED, DEPENDENT, EMPTIED, PLAIN, REOPENED, TWO_SLOTS, TWO_SLOTS_LOST,
+    TWO_SLOTS_REFUSED, TWO_SLOTS_SHORT, USAGE, VERSION_1, WHOLE, check, ended, samples,
 };
 use core_iface::{Core, FoldCore};
 use outside::{MemShelf, MemSink};
@@ -13,67 +14,64 @@ use xheaac_tool::{Outcome, do_play};
 
 #[test]
 fn plays_streams(rt: HostRuntime) -> Result<(), Fail> {
-    let cases = [
-        WHOLE,
-        Case {
-            bytes: &PLAIN[..19],
-            status: 1,
-            written: 2048,
-            note: "refused: frame 1: form not built\n",
-            fed: 1,
-            ..WHOLE
-        },
-        Case {
-            bytes: b"\x00",
-            status: 1,
-            written: 0,
-            note: "refused: frame 0: form not built\n",
-            fed: 0,
-            ..WHOLE
-        },
-        Case {
-            bytes: b"",
-            written: 0,
-            fed: 0,
-            ..WHOLE
-        },
-        Case {
-            bytes: REOPENED,
-            status: 1,
-            note: "refused: frame 2: form not built\n",
-            ..WHOLE
-        },
-        Case {
-            bytes: EMPTIED,
-            status: 1,
-            written: 2048,
-            note: "refused: frame 1: form not built\n",
-            fed: 1,
-            ..WHOLE
-        },
-        Case {
-            bytes: DECLARED,
-            status: 1,
-            written: 0,
-            note: "refused: frame 0: form not built\n",
-            fed: 0,
-            ..WHOLE
-        },
-        Case {
-            bytes: DEPENDENT,
-            status: 1,
-            written: 0,
-            note: "refused: frame 0: form not built\n",
-            fed: 0,
-            ..WHOLE
-        },
+    let none = Case {
+        written: 0,
+        fed: 0,
+        ..WHOLE
+    };
+    let one = Case {
+        written: 2048,
+        fed: 1,
+        ..WHOLE
+    };
+    let three = Case {
+        written: 6144,
+        fed: 3,
+        ..WHOLE
+    };
+    let rows: [(&[u8], &str, Case<'_>); 14] = [
+        (PLAIN, "", WHOLE),
+        (TWO_SLOTS, "", WHOLE),
+        (VERSION_1, "", one),
+        (REOPENED, "", three),
+        (b"", "", none),
+        // refused by its framing
+        (&PLAIN[..19], "refused: byte 14: truncated\n", one),
+        (TWO_SLOTS_LOST, "refused: byte 16: sync lost\n", WHOLE),
+        // refused by an element
+        (
+            &PLAIN[14..],
+            "refused: frame 0 bit 0: no configuration\n",
+            none,
+        ),
+        (
+            TWO_SLOTS_SHORT,
+            "refused: frame 2 bit 17: mux too short\n",
+            WHOLE,
+        ),
+        (
+            TWO_SLOTS_REFUSED,
+            "refused: frame 2 bit 2: out of profile: audioMuxVersionA\n",
+            WHOLE,
+        ),
+        // not taken yet
+        (CHANGED, "refused: frame 2: form not built\n", WHOLE),
+        (EMPTIED, "refused: frame 1: form not built\n", one),
+        (DECLARED, "refused: frame 0: form not built\n", none),
+        (DEPENDENT, "refused: frame 0: form not built\n", none),
     ];
-    for case in cases {
-        for piece in [5000, 1] {
-            check(&rt, piece, case, &mut FoldCore::new())?;
-        }
+    for (bytes, note, case) in rows {
+        let case = Case {
+            bytes,
+            note,
+            status: if note.is_empty() { 0 } else { 1 },
+            ..case
+        };
+        check(&rt, 5000, case, &mut FoldCore::new())?;
+        check(&rt, 1, case, &mut FoldCore::new())?;
     }
-    Ok(())
+    check(&rt, 2, WHOLE, &mut FoldCore::new())?;
+    check(&rt, 19, WHOLE, &mut FoldCore::new())
 }
 
 #[test]
@@ -196,7 +194,9 @@ fn check_without_note(rt: &(impl Abort + AllocGlobal), piece: usize) -> Result<(
     let mut core = FoldCore::new();
     let outcome = do_play(alloc, &words, &mut shelf, &mut out, &mut core);
     assert!(rt; matches!(outcome, Outcome::Done));
-    assert_eq!(rt; out.bytes(), samples(alloc)?.as_slice());
+    let samples = samples(alloc)?;
+    let wanted = samples.get(..4096).unwrap_or(&[]);
+    assert_eq!(rt; out.bytes(), wanted);
     assert_eq!(rt; core.fed(), 2);
     Ok(())
 }

@@ -1,11 +1,19 @@
 // Worked rows of `show`.
-use crate::cases::{Case, DECLARED, EMPTIED, PLAIN, REOPENED, check_output, ended};
+use crate::cases::{
+    CHANGED, Case, DECLARED, EMPTIED, PLAIN, REOPENED, TWO_SLOTS, TWO_SLOTS_REFUSED, VERSION_1,
+    check_output, ended,
+};
 use core_iface::{Core, FoldCore};
 use outside::{MemShelf, MemSink};
 use std::test::Fail;
 use xheaac_tool::{Outcome, do_show};
 
 const MUX_LINE: &str = "mux version=0 subframes=1 fullness=255 other=- crc=-\n";
+
+const TWO_SLOTS_LINE: &str = "mux version=0 subframes=2 fullness=255 other=- crc=-\n";
+
+const VERSION_1_LINES: &str =
+    "mux version=1 subframes=1 fullness=192 other=5 crc=c3\nasc index=3 rate=- channels=1 tail=3\nusac rate=48000 frame=1024 channels=1 elements=1 extensions=0 id=-\nelement 0 single tw=0 nf=1\n";
 
 const DECLARED_LINES: &str =
     "asc index=3 rate=- channels=1 tail=0\nusac rate=48000 frame=1024 channels=1 elements=2 extensions=1 id=1\nelement 0 ext type=3 default=- frag=0 config=-\nelement 1 single tw=0 nf=1\nextension 0 type=7 bytes=0001\n";
@@ -19,32 +27,37 @@ fn shows_streams(rt: HostRuntime) -> Result<(), Fail> {
         words: &["show", "in"],
         ..ended(0, 0, 0)
     };
-    let rows: [(&[u8], u8, &str, &[&str]); 5] = [
-        (DECLARED, 0, "", &[MUX_LINE, DECLARED_LINES]),
+    let rows: [(&[u8], &str, &[&str]); 8] = [
+        (DECLARED, "", &[MUX_LINE, DECLARED_LINES]),
+        (TWO_SLOTS, "", &[TWO_SLOTS_LINE, PLAIN_LINES]),
+        (VERSION_1, "", &[VERSION_1_LINES]),
         (
-            REOPENED,
-            0,
+            CHANGED,
             "",
-            &[MUX_LINE, PLAIN_LINES, MUX_LINE, PLAIN_LINES],
+            &[MUX_LINE, PLAIN_LINES, MUX_LINE, DECLARED_LINES],
         ),
+        (EMPTIED, "", &[MUX_LINE, PLAIN_LINES]),
+        (b"", "", &[]),
         (
             &REOPENED[..33],
-            1,
-            "refused: frame 2: form not built\n",
+            "refused: byte 20: truncated\n",
             &[MUX_LINE, PLAIN_LINES],
         ),
-        (EMPTIED, 0, "", &[MUX_LINE, PLAIN_LINES]),
-        (b"\x00", 1, "refused: frame 0: form not built\n", &[]),
+        (
+            TWO_SLOTS_REFUSED,
+            "refused: frame 2 bit 2: out of profile: audioMuxVersionA\n",
+            &[TWO_SLOTS_LINE, PLAIN_LINES],
+        ),
     ];
-    for (bytes, status, note, texts) in rows {
+    for (bytes, note, texts) in rows {
         let mut wanted = Vec::new(rt.alloc());
         for text in texts {
             wanted.extend_from_slice(text.as_bytes())?;
         }
         let case = Case {
             bytes,
-            status,
             note,
+            status: if note.is_empty() { 0 } else { 1 },
             ..shown
         };
         check_output(&rt, 5000, case, &wanted, &mut FoldCore::new())?;
