@@ -1,7 +1,7 @@
 // Worked rows of `show`.
 use crate::cases::{
-    CHANGED, Case, DECLARED, EMPTIED, PLAIN, REOPENED, TWO_SLOTS, TWO_SLOTS_REFUSED, VERSION_1,
-    check_output, ended,
+    CHANGED, Case, DECLARED, EMPTIED, IMMEDIATE, PLAIN, REOPENED, TWO_SLOTS, TWO_SLOTS_REFUSED,
+    VERSION_1, check_output, ended,
 };
 use core_iface::{Core, FoldCore};
 use outside::{MemShelf, MemSink};
@@ -21,32 +21,67 @@ const DECLARED_LINES: &str =
 const PLAIN_LINES: &str =
     "asc index=3 rate=- channels=1 tail=0\nusac rate=48000 frame=1024 channels=1 elements=1 extensions=0 id=-\nelement 0 single tw=0 nf=1\n";
 
+const FIRST_LINE: &str = "frame 0 independent=1 bytes=1 leading=none\n";
+
+const FIRST_LINES: &str =
+    "frame 0 independent=1 bytes=1 leading=none\nframe 1 independent=0 bytes=1 leading=none\n";
+
+const IMMEDIATE_LINES: &str =
+    "asc index=3 rate=- channels=1 tail=0\nusac rate=48000 frame=1024 channels=1 elements=2 extensions=1 id=2\nelement 0 ext type=3 default=- frag=0 config=-\nelement 1 single tw=0 nf=1\nextension 0 type=7 bytes=0002\n";
+
+const IMMEDIATE_FRAMES: &str =
+    "frame 0 independent=1 bytes=1 leading=-\nframe 1 independent=0 bytes=1 leading=-\nframe 2 independent=0 bytes=1 leading=-\nframe 3 independent=1 bytes=1 leading=-\nframe 4 independent=1 bytes=15 leading=12\nframe 5 independent=0 bytes=1 leading=-\nframe 6 independent=0 bytes=1 leading=-\nframe 7 independent=0 bytes=1 leading=-\n";
+
 #[test]
 fn shows_streams(rt: HostRuntime) -> Result<(), Fail> {
     let shown = Case {
         words: &["show", "in"],
         ..ended(0, 0, 0)
     };
-    let rows: [(&[u8], &str, &[&str]); 8] = [
-        (DECLARED, "", &[MUX_LINE, DECLARED_LINES]),
-        (TWO_SLOTS, "", &[TWO_SLOTS_LINE, PLAIN_LINES]),
-        (VERSION_1, "", &[VERSION_1_LINES]),
+    let rows: [(&[u8], &str, &[&str]); 9] = [
+        (
+            DECLARED,
+            "",
+            &[
+                MUX_LINE,
+                DECLARED_LINES,
+                "frame 0 independent=1 bytes=1 leading=-\n",
+            ],
+        ),
+        (
+            IMMEDIATE,
+            "",
+            &[MUX_LINE, IMMEDIATE_LINES, IMMEDIATE_FRAMES],
+        ),
+        (TWO_SLOTS, "", &[TWO_SLOTS_LINE, PLAIN_LINES, FIRST_LINES]),
+        (VERSION_1, "", &[VERSION_1_LINES, FIRST_LINE]),
         (
             CHANGED,
             "",
-            &[MUX_LINE, PLAIN_LINES, MUX_LINE, DECLARED_LINES],
+            &[
+                MUX_LINE,
+                PLAIN_LINES,
+                FIRST_LINES,
+                MUX_LINE,
+                DECLARED_LINES,
+                "frame 2 independent=1 bytes=1 leading=-\n",
+            ],
         ),
-        (EMPTIED, "", &[MUX_LINE, PLAIN_LINES]),
+        (
+            EMPTIED,
+            "refused: frame 1 bit 0: frame too short\n",
+            &[MUX_LINE, PLAIN_LINES, FIRST_LINE],
+        ),
         (b"", "", &[]),
         (
             &REOPENED[..33],
             "refused: byte 20: truncated\n",
-            &[MUX_LINE, PLAIN_LINES],
+            &[MUX_LINE, PLAIN_LINES, FIRST_LINES],
         ),
         (
             TWO_SLOTS_REFUSED,
             "refused: frame 2 bit 2: out of profile: audioMuxVersionA\n",
-            &[TWO_SLOTS_LINE, PLAIN_LINES],
+            &[TWO_SLOTS_LINE, PLAIN_LINES, FIRST_LINES],
         ),
     ];
     for (bytes, note, texts) in rows {
@@ -94,6 +129,7 @@ fn shows_without_note(rt: HostRuntime) -> Result<(), Fail> {
     let mut wanted = Vec::new(alloc);
     wanted.extend_from_slice(MUX_LINE.as_bytes())?;
     wanted.extend_from_slice(PLAIN_LINES.as_bytes())?;
+    wanted.extend_from_slice(FIRST_LINES.as_bytes())?;
     assert_eq!(rt; out.bytes(), wanted.as_slice());
     assert_eq!(rt; core.fed(), 0);
     Ok(())
