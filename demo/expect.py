@@ -1,10 +1,11 @@
 #!/usr/bin/env python3
 """Says what `xheaac show FILE` and `xheaac play FILE` are to do, by a reader of its own: expect.py show|play FILE writes the
-same bytes and the same note, and ends with the same status. It shares no code with the program. It reads every canonical
-stream, and decodes by the rules of the example core."""
+same bytes and the same note, and ends with the same status. It shares no code with the program. It reads a stream in any mux
+of one program and one layer, says at which bit or byte it is at fault, and decodes by the rules of the example core."""
 import sys
 
 MOST_BYTES = 268_435_456
+MOST_OTHER = 65_535  # the bits of other data in an element
 
 RATES = {
     **dict(enumerate((96000, 88200, 64000, 48000, 44100, 32000, 24000, 22050, 16000, 12000, 11025, 8000, 7350))),
@@ -17,8 +18,24 @@ CHANNELS = (None, 1, 2, 3, 4, 5, 6, 8, 2, 3, 4, 7, 8, 24)
 WARM_UP = (1, 3, 2, 2)
 
 
-class NotBuilt(Exception):
-    """The bytes are no frame that the command takes."""
+class Stop(Exception):
+    """The command ends here, with that note and status."""
+
+    def __init__(self, note, status):
+        super().__init__(note)
+        self.note, self.status = note, status
+
+
+def refused(place, reason):
+    return Stop(f"refused: {place}: {reason}\n", 1)
+
+
+class Fault(Exception):
+    """A field of an element is at fault: its first bit, and the reason."""
+
+    def __init__(self, bit, reason):
+        super().__init__(reason)
+        self.bit, self.reason = bit, reason
 
 
 class Text:
@@ -27,37 +44,56 @@ class Text:
     def __init__(self, octets):
         self.bits = "".join(f"{octet:08b}" for octet in octets)
         self.at = 0
+        self.end = len(self.bits)
+        self.lacking = "mux too short"  # the reason where a field lacks bits
 
     def left(self):
-        return len(self.bits) - self.at
+        return self.end - self.at
 
-    def number(self, width):
-        if self.left() < width:
-            raise NotBuilt
-        self.at += width
-        return int(self.bits[self.at - width : self.at], 2) if width else 0
+    def run(self, count, field=None):
+        """The next bits. Where they are a part of a field, that begins at `field`."""
+        if self.left() < count:
+            raise Fault(self.at if field is None else field, self.lacking)
+        self.at += count
+        return self.bits[self.at - count : self.at]
+
+    def number(self, width, field=None):
+        return int(self.run(width, field) or "0", 2)
 
     def numbers(self, *widths):
         return [self.number(width) for width in widths]
 
+    def octets(self, count):
+        bits = self.run(8 * count)
+        return int(bits or "0", 2).to_bytes(count, "big")
+
     def escaped(self, *widths):
         """escapedValue: a field of ones is followed by another one."""
-        value = 0
+        value, field = 0, self.at
         for width in widths:
-            more = self.number(width)
+            more = self.number(width, field)
             value += more
             if more != 2**width - 1:
                 break
         return value
 
-    def octets(self, count):
-        if self.left() < 8 * count:
-            raise NotBuilt
-        return bytes(self.number(8) for _ in range(count))
+    def latm_value(self):
+        """LatmGetValue: a count of bytes, and as many bytes."""
+        field = self.at
+        return self.number(8 * (self.number(2, field) + 1), field)
 
-    def demand(self, width, value):
+    def slot_length(self):
+        """MuxSlotLengthBytes: bytes are summed until one of them is not 255."""
+        value, field = 0, self.at
+        while (more := self.number(8, field)) == 255:
+            value += more
+        return value + more
+
+    def fixed(self, width, value, name):
+        """A field of which the profile takes one value alone."""
+        field = self.at
         if self.number(width) != value:
-            raise NotBuilt
+            raise Fault(field, f"out of profile: {name}")
 
 
 def dash(value):
@@ -76,36 +112,53 @@ class Configuration:
     """UsacConfig, and the lines of its parts."""
 
     def __init__(self, text):
+        begin = text.at
         self.read_output(text)
         self.lines = []  # those of the elements and extensions
         self.leading = 0  # the extension elements before the first other one
+        field = text.at
         self.elements = text.escaped(4, 8, 16) + 1
         if self.elements > 64:
-            raise NotBuilt
+            raise Fault(field, "too many elements")
         for number in range(self.elements):
             self.read_element(text, number)
         self.stream = None  # the stream identifier
         self.extensions = text.escaped(2, 4, 8) + 1 if text.number(1) else 0  # usacConfigExtensionPresent
         for number in range(self.extensions):
             self.read_extension(text, number)
+        self.spelling = text.bits[begin : text.at]
 
     def read_output(self, text):
+        field = text.at
         rate_index = text.number(5)  # usacSamplingFrequencyIndex
-        self.rate = text.number(24) if rate_index == 31 else RATES.get(rate_index)
+        self.rate = RATES.get(rate_index)
+        if rate_index == 31:
+            field = text.at
+            self.rate = text.number(24)  # usacSamplingFrequency
+        if not self.rate:
+            raise Fault(field, "rate zero" if rate_index == 31 else "reserved rate index")
+        field = text.at
         frame_index = text.number(3)  # coreSbrFrameLengthIndex
-        if not self.rate or frame_index >= len(FRAMES):
-            raise NotBuilt
+        if frame_index >= len(FRAMES):
+            raise Fault(field, "reserved frame length index")
         self.ratio, self.samples = FRAMES[frame_index]
+        field = text.at
         channel_index = text.number(5)  # channelConfigurationIndex
         if channel_index >= len(CHANNELS):
-            raise NotBuilt
-        self.channels = CHANNELS[channel_index]
-        self.positions = None
+            raise Fault(field, "reserved channel index")
+        self.channels, self.positions = CHANNELS[channel_index], None
         if channel_index == 0:
-            self.channels = text.escaped(5, 8, 16)  # numOutChannels
-            if not 1 <= self.channels <= 64:
-                raise NotBuilt
-            self.positions = [text.number(5) for _ in range(self.channels)]
+            self.read_positions(text)
+
+    def read_positions(self, text):
+        """UsacChannelConfig."""
+        field = text.at
+        self.channels = text.escaped(5, 8, 16)  # numOutChannels
+        if self.channels == 0:
+            raise Fault(field, "no channels")
+        if self.channels > 64:
+            raise Fault(field, "too many channels")
+        self.positions = [text.number(5) for _ in range(self.channels)]
 
     def read_element(self, text, number):
         kind = text.number(2)  # usacElementType
@@ -172,60 +225,129 @@ def read_mps212(text, stereo):
     )
 
 
-class Opening:
-    """StreamMuxConfig in its canonical form."""
+class Specific:
+    """AudioSpecificConfig. It is counted where its end is known; then up to 7 bits may follow."""
 
-    def __init__(self, text):
-        text.demand(1, 0)  # audioMuxVersion
-        text.demand(1, 1)  # allStreamsSameTimeFraming
-        text.demand(6, 0)  # numSubFrames
-        text.demand(4, 0)  # numProgram
-        text.demand(3, 0)  # numLayer
-        text.demand(5, 31)  # audioObjectType
-        text.demand(6, 10)  # audioObjectTypeExt
+    def __init__(self, text, counted=None):
+        behind = text.end
+        text.lacking = "configuration too short"
+        if counted is not None:
+            text.end = text.at + counted
+        self.read_type(text)
         self.index = text.number(4)  # samplingFrequencyIndex
         self.rate = text.number(24) if self.index == 15 else None  # samplingFrequency
         self.channels = text.number(4)  # channelConfiguration
         self.usac = Configuration(text)
-        text.demand(3, 0)  # frameLengthType
-        text.demand(8, 255)  # latmBufferFullness
-        text.demand(1, 0)  # otherDataPresent
-        text.demand(1, 0)  # crcCheckPresent
+        self.tail = 0 if counted is None else text.left()
+        if self.tail > 7:
+            raise Fault(text.at, "configuration tail too long")
+        text.run(self.tail)
+        text.end, text.lacking = behind, "mux too short"
+
+    def read_type(self, text):
+        field = text.at
+        kind = text.number(5)  # audioObjectType
+        if kind == 31:
+            kind = 32 + text.number(6, field)  # audioObjectTypeExt
+        if kind != 42:
+            raise Fault(field, f"not USAC: type {kind}")
 
     def shown(self):
-        yield "mux version=0 subframes=1 fullness=255 other=- crc=-"
-        yield f"asc index={self.index} rate={dash(self.rate)} channels={self.channels} tail=0"
+        yield f"asc index={self.index} rate={dash(self.rate)} channels={self.channels} tail={self.tail}"
         yield from self.usac.shown()
 
 
-def read_element(octets, is_in_force):
-    """Returns what the element of a canonical frame puts in force, if anything, and the bits of its access unit."""
+class Mux:
+    """StreamMuxConfig."""
+
+    def __init__(self, text):
+        self.version = text.number(1)  # audioMuxVersion
+        if self.version:
+            text.fixed(1, 0, "audioMuxVersionA")
+            text.latm_value()  # taraBufferFullness
+        text.fixed(1, 1, "allStreamsSameTimeFraming")
+        self.slots = text.number(6) + 1  # numSubFrames
+        text.fixed(4, 0, "numProgram")
+        text.fixed(3, 0, "numLayer")
+        counted = text.latm_value() if self.version else None  # ascLen
+        if counted is not None and text.left() < counted:
+            raise Fault(text.at, text.lacking)
+        self.asc = Specific(text, counted)
+        text.fixed(3, 0, "frameLengthType")
+        self.fullness = text.number(8)  # latmBufferFullness
+        self.other = self.read_other(text) if text.number(1) else None  # otherDataPresent
+        self.crc = text.octets(1) if text.number(1) else b""  # crcCheckPresent, crcCheckSum
+
+    def read_other(self, text):
+        """The number of bits of other data. In version 0 it is too large as soon as the bytes so far are."""
+        field, value, more = text.at, 0, 1
+        if self.version:
+            value = text.latm_value()
+        while not self.version and more and value <= MOST_OTHER:
+            more = text.number(1, field)  # otherDataLenEsc
+            value = 256 * value + text.number(8, field)
+        if value > MOST_OTHER:
+            raise Fault(field, "out of profile: otherDataLenBits")
+        return value
+
+    def shown(self):
+        yield (
+            f"mux version={self.version} subframes={self.slots} fullness={self.fullness} "
+            f"other={dash(self.other)} crc={hexed(self.crc)}"
+        )
+        yield from self.asc.shown()
+
+
+def read_element(octets, in_force):
+    """AudioMuxElement: the mux that it has, if any, and the bits of each access unit."""
     text = Text(octets)
     goes_on = text.number(1)  # useSameStreamMux
-    if goes_on and not is_in_force:
-        raise NotBuilt
-    opening = None if goes_on else Opening(text)
-    length = 0  # MuxSlotLengthBytes
-    while (more := text.number(8)) == 255:
-        length += more
-    length += more
-    if text.left() < 8 * length:
-        raise NotBuilt
-    unit = text.bits[text.at : text.at + 8 * length]
-    behind = text.bits[text.at + 8 * length :]
-    if len(behind) >= 8 or "1" in behind:
-        raise NotBuilt
-    return opening, unit
+    if goes_on and in_force is None:
+        raise Fault(0, "no configuration")
+    opening = None if goes_on else Mux(text)
+    mux = opening or in_force
+    slots = [text.run(8 * text.slot_length()) for _ in range(mux.slots)]
+    text.run(mux.other or 0)
+    return opening, slots
 
 
-def read_frame(octets, at, is_in_force):
-    """Returns where the frame at that place ends, what it puts in force, and its access unit."""
-    if len(octets) < at + 3 or octets[at] != 0x56 or octets[at + 1] < 0xE0:
-        raise NotBuilt
-    end = at + 3 + (octets[at + 1] - 0xE0) * 256 + octets[at + 2]
-    if len(octets) < end:
-        raise NotBuilt
-    return end, *read_element(octets[at + 3 : end], is_in_force)
+def read_body(octets, at, is_whole):
+    """AudioSyncStream: the bytes behind the header at that place, and where they end. Where less stands there than a frame, the
+    stream is cut if these bytes are the whole of it, and else it is too large."""
+    head = octets[at : at + 3]
+    if head[0] != 0x56 or len(head) > 1 and head[1] < 0xE0:
+        raise refused(f"byte {at}", "sync lost")
+    end = at + 3 + ((head[1] - 0xE0) * 256 + head[2] if len(head) == 3 else 0)
+    if len(head) < 3 or len(octets) < end:
+        raise refused(f"byte {at}", "truncated") if is_whole else Stop("too large\n", 7)
+    return octets[at + 3 : end], end
+
+
+class Frame:
+    """One access unit, what is in force for it, and the mux that its element opens with, where it is the first of one."""
+
+    def __init__(self, number, opening, mux, is_changed, unit):
+        self.number, self.opening, self.mux = number, opening, mux
+        self.is_changed, self.unit = is_changed, unit
+
+
+def frames_of(octets):
+    """The frames of a stream, one after another. Where it is at fault, the next one ends the command."""
+    counted = octets[:MOST_BYTES]
+    at, number, mux = 0, 0, None
+    while at < len(counted):
+        body, at = read_body(counted, at, len(octets) == len(counted))
+        try:
+            opening, slots = read_element(body, mux)
+        except Fault as fault:
+            raise refused(f"frame {number} bit {fault.bit}", fault.reason) from fault
+        is_changed = opening is not None and (mux is None or mux.asc.usac.spelling != opening.asc.usac.spelling)
+        mux = opening or mux
+        for place, unit in enumerate(slots):
+            yield Frame(number, None if place else opening, mux, is_changed and place == 0, unit)
+            number += 1
+    if len(octets) > len(counted):
+        raise Stop("too large\n", 7)
 
 
 class Fold:
@@ -250,40 +372,39 @@ class Fold:
 
 
 class Play:
-    """The samples of each frame. One configuration stands in the first frame; it has no leading extension element."""
+    """The samples of each frame. So far it takes one configuration, which has no leading extension element."""
 
     core = None
 
-    def handle(self, opening, unit):
+    def handle(self, frame):
+        if not self.takes(frame):
+            raise refused(f"frame {frame.number}", "form not built")
         if self.core is None:
-            if opening.usac.leading or unit[:1] != "1":
-                raise NotBuilt
-            self.core = Fold(opening.usac)
-        elif opening or not unit:
-            raise NotBuilt
-        return self.core.block(unit)
+            self.core = Fold(frame.mux.asc.usac)
+        return self.core.block(frame.unit)
+
+    def takes(self, frame):
+        if frame.number == 0:
+            return frame.mux.asc.usac.leading == 0 and frame.unit[:1] == "1"
+        return frame.unit != "" and not frame.is_changed
 
 
 class Show:
-    """The lines of what each frame puts in force."""
+    """The lines of each mux, at the first frame of its element."""
 
-    def handle(self, opening, unit):
-        return b"".join(line.encode() + b"\n" for line in opening.shown()) if opening else b""
+    def handle(self, frame):
+        lines = frame.opening.shown() if frame.opening else []
+        return b"".join(line.encode() + b"\n" for line in lines)
 
 
 def run(command, octets):
     """Returns the bytes written, the note and the status."""
-    counted = octets[:MOST_BYTES]
-    at, frames, written = 0, 0, []
+    written = []
     try:
-        while at < len(counted):
-            at, opening, unit = read_frame(counted, at, frames > 0)
-            written.append(command.handle(opening, unit))
-            frames += 1
-        if len(octets) > MOST_BYTES:
-            raise NotBuilt
-    except NotBuilt:
-        return b"".join(written), f"refused: frame {frames}: form not built\n".encode(), 1
+        for frame in frames_of(octets):
+            written.append(command.handle(frame))
+    except Stop as stop:
+        return b"".join(written), stop.note.encode(), stop.status
     return b"".join(written), b"", 0
 
 
