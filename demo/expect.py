@@ -41,11 +41,11 @@ class Fault(Exception):
 class Text:
     """A text of bits that is read from its front."""
 
-    def __init__(self, octets):
-        self.bits = "".join(f"{octet:08b}" for octet in octets)
+    def __init__(self, bits, lacking):
+        self.bits = bits
         self.at = 0
-        self.end = len(self.bits)
-        self.lacking = "mux too short"  # the reason where a field lacks bits
+        self.end = len(bits)
+        self.lacking = lacking  # the reason where a field lacks bits
 
     def left(self):
         return self.end - self.at
@@ -115,7 +115,8 @@ class Configuration:
         begin = text.at
         self.read_output(text)
         self.lines = []  # those of the elements and extensions
-        self.leading = 0  # the extension elements before the first other one
+        self.leading = []  # of each extension element before the first other one: its default length, and whether it has fragments
+        self.has_preroll = False
         field = text.at
         self.elements = text.escaped(4, 8, 16) + 1
         if self.elements > 64:
@@ -163,9 +164,11 @@ class Configuration:
     def read_element(self, text, number):
         kind = text.number(2)  # usacElementType
         if kind == 3:
-            if self.leading == number:
-                self.leading += 1
-            self.lines.append(f"element {number} ext {read_ext_element(text)}")
+            type_number, default, fragments, line = read_ext_element(text)
+            if len(self.leading) == number:
+                self.leading.append((default or 0, fragments))
+            self.has_preroll |= number == 0 and type_number == 3
+            self.lines.append(f"element {number} ext {line}")
         elif kind == 2:
             self.lines.append(f"element {number} lfe")
         else:
@@ -202,7 +205,8 @@ def read_ext_element(text):
     kind, count = text.escaped(4, 8, 16), text.escaped(4, 8, 16)
     default = text.escaped(8, 16) + 1 if text.number(1) else None
     fragments = text.number(1)
-    return f"type={kind} default={dash(default)} frag={fragments} config={hexed(text.octets(count))}"
+    line = f"type={kind} default={dash(default)} frag={fragments} config={hexed(text.octets(count))}"
+    return kind, default, fragments, line
 
 
 def read_sbr(text):
@@ -300,7 +304,7 @@ class Mux:
 
 def read_element(octets, in_force):
     """AudioMuxElement: the mux that it has, if any, and the bits of each access unit."""
-    text = Text(octets)
+    text = Text("".join(f"{octet:08b}" for octet in octets), "mux too short")
     goes_on = text.number(1)  # useSameStreamMux
     if goes_on and in_force is None:
         raise Fault(0, "no configuration")
@@ -350,6 +354,40 @@ def frames_of(octets):
         raise Stop("too large\n", 7)
 
 
+class Unit:
+    """UsacFrame, as far as its leading extension elements."""
+
+    def __init__(self, frame):
+        usac, text = frame.mux.asc.usac, Text(frame.unit, "frame too short")
+        try:
+            self.flag = text.run(1)  # usacIndependencyFlag
+            self.core = text.at
+            self.parts = []  # of each element the number of bytes of its payload, if it is present
+            for number, element in enumerate(usac.leading):
+                self.parts.append(read_part(text, *element))
+                if number == 0 and usac.has_preroll:
+                    self.core = text.at
+        except Fault as fault:
+            raise refused(f"frame {frame.number} bit {fault.bit}", fault.reason) from fault
+        self.preroll = self.parts[0] or 0 if usac.has_preroll else 0
+        self.bits = self.flag + text.bits[self.core :]  # what the core sees
+
+
+def read_part(text, default, fragments):
+    """UsacExtElement: the number of bytes of its payload, or nothing where it is absent."""
+    if not text.number(1):  # usacExtElementPresent
+        return None
+    length = default
+    if not text.number(1):  # usacExtElementUseDefaultLength
+        length = text.number(8)
+        if length == 255:
+            length += text.number(16) - 2
+    if length and fragments:
+        text.numbers(1, 1)  # usacExtElementStart, usacExtElementStop
+    text.run(8 * length)
+    return length
+
+
 class Fold:
     """The example core: a context, and the values of the units before, the newest first."""
 
@@ -372,28 +410,31 @@ class Fold:
 
 
 class Play:
-    """The samples of each frame. So far it takes one configuration, which has no leading extension element."""
+    """The samples of each frame. So far it takes one configuration, and no preroll at its start."""
 
     core = None
 
     def handle(self, frame):
-        if not self.takes(frame):
+        if frame.number and frame.is_changed:
             raise refused(f"frame {frame.number}", "form not built")
+        unit = Unit(frame)
         if self.core is None:
+            if unit.preroll:
+                raise refused(f"frame {frame.number}", "form not built")
+            if unit.flag == "0":
+                raise refused(f"frame {frame.number}", "not independent")
             self.core = Fold(frame.mux.asc.usac)
-        return self.core.block(frame.unit)
-
-    def takes(self, frame):
-        if frame.number == 0:
-            return frame.mux.asc.usac.leading == 0 and frame.unit[:1] == "1"
-        return frame.unit != "" and not frame.is_changed
+        return self.core.block(unit.bits)
 
 
 class Show:
-    """The lines of each mux, at the first frame of its element."""
+    """The lines of each mux, at the first frame of its element, and of each frame. It writes nothing of a frame that is refused."""
 
     def handle(self, frame):
-        lines = frame.opening.shown() if frame.opening else []
+        unit = Unit(frame)
+        lines = list(frame.opening.shown()) if frame.opening else []
+        leading = ",".join(str(dash(part)) for part in unit.parts) or "none"
+        lines.append(f"frame {frame.number} independent={unit.flag} bytes={len(frame.unit) // 8} leading={leading}")
         return b"".join(line.encode() + b"\n" for line in lines)
 
 
