@@ -51,7 +51,8 @@ fn leading_text(alloc: Global, parts: &[ExtPart]) -> Result<String, AllocError>
 }
 
 /// The line of a frame with its line feed: its number, counted from 0; usacIndependencyFlag; the number of bytes of its access
-/// unit; and of each leading part the number of bytes of its payload, or a dash where the part is absent.
+/// unit; and for each leading part the number of bytes of its payload, or a dash where the part is absent, with commas between
+/// them. Where there are no parts, the word `none` stands in their place.
 ///
 /// Errors: want of memory.
 ///

@@ -1,8 +1,10 @@
 //! The texts that tell a stream to a reader, each line with its line feed: StreamMuxConfig and AudioSpecificConfig (ISO/IEC
-//! 14496-3), the UsacConfig in it (ISO/IEC 23003-3) with its elements and extensions, and refusals.
+//! 14496-3), the UsacConfig in it (ISO/IEC 23003-3) with its elements and extensions, UsacFrame with its leading parts, and
+//! refusals.
 //!
-//! In the lines of a configuration numbers are decimal, truth values are 0 or 1, bytes are lower-case hex, and a dash stands for
-//! what is absent or empty. A refusal is a place and a reason; each fault of the crates below but want of memory is one.
+//! In the lines of a configuration and of a frame numbers are decimal, truth values are 0 or 1, bytes are lower-case hex, and a
+//! dash stands for what is absent or empty. A refusal is a place and a reason; each fault of the crates below but want of memory
+//! is one.
 #![tactic(auto)]
 
 mod element_lines;

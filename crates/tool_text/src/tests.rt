@@ -3,16 +3,18 @@ ghost use Rattle.usac_cfg.specs.UsacConfig.{IsWellFormed as IsUsacWellFormed};
 ghost use Rattle.asc.specs.Asc.{IsWellFormed};
 
 use crate::{
-    Place, Reason, Refusal, configuration_lines, loas_refusal, mux_lines, mux_refusal, refusal_line,
+    Place, Reason, Refusal, configuration_lines, frame_line, loas_refusal, mux_lines, mux_refusal,
+    refusal_line,
 };
 use asc::{Asc, AscFault};
-use bit_core::{BitReader, Bits, Octets};
+use bit_core::{BitReader, Bits, Items, Octets};
 use latm::{MuxConfig, MuxFault, MuxField};
 use loas::LoasFault;
-use std::alloc::Global;
+use std::alloc::{AllocError, Global};
 use std::process::Abort;
 use std::test::Fail;
 use usac_cfg::{CfgFault, UsacConfig};
+use usac_frame::{ExtPart, Frame, LengthForm};
 
 /// A configuration, how many bits it has, and its lines behind that of AudioSpecificConfig.
 type Row = (&'static [u8], u64, &'static [&'static str]);
@@ -164,6 +166,77 @@ fn muxes_of_both_versions(rt: HostRuntime) -> Result<(), Fail> {
             "asc index=3 rate=- channels=1 tail=0\n",
             IDENTIFIED,
         );
+    }
+    Ok(())
+}
+
+/// The number of a frame, whether it is independent, the length of its access unit, the payload of each part that is not
+/// absent, and the line.
+type FrameRow = (
+    u64,
+    bool,
+    u64,
+    &'static [Option<&'static [u8]>],
+    &'static str,
+);
+
+const FRAMES: &[FrameRow] = &[
+    (
+        0,
+        true,
+        1,
+        &[],
+        "frame 0 independent=1 bytes=1 leading=none\n",
+    ),
+    (
+        0,
+        true,
+        1,
+        &[None],
+        "frame 0 independent=1 bytes=1 leading=-\n",
+    ),
+    (
+        37,
+        false,
+        16,
+        &[None, Some(b"twelve bytes"), Some(b"")],
+        "frame 37 independent=0 bytes=16 leading=-,12,0\n",
+    ),
+];
+
+fn part_of(alloc: Global, payload: Option<&[u8]>) -> Result<ExtPart, AllocError> {
+    let Some(payload) = payload else {
+        return Ok(ExtPart::Absent);
+    };
+    let payload = Octets::copy_of(alloc, payload)?;
+    Ok(ExtPart::Present {
+        form: LengthForm::Byte,
+        start: true,
+        stop: true,
+        payload,
+    })
+}
+
+fn check_frame(rt: &(impl Abort + AllocGlobal), row: &FrameRow) -> Result<(), Fail> {
+    let (number, independent, bytes, payloads, wanted) = *row;
+    let mut leading = Items::new(rt.alloc());
+    for payload in payloads {
+        leading.push(part_of(rt.alloc(), *payload)?)?;
+    }
+    let frame = Frame {
+        independent,
+        leading,
+        rest: Bits::new(rt.alloc()),
+    };
+    let line = frame_line(rt.alloc(), number, bytes, &frame)?;
+    assert_eq!(rt; line.as_slice(), wanted.as_bytes(), "{wanted}");
+    Ok(())
+}
+
+#[test]
+fn frames_have_their_lines(rt: HostRuntime) -> Result<(), Fail> {
+    for row in FRAMES {
+        check_frame(&rt, row)?;
     }
     Ok(())
 }
