@@ -40,7 +40,8 @@ fn plays_leading_elements(rt: HostRuntime) -> Result<(), Fail> {
     let alloc = rt.alloc();
     let whole = bytes_of(alloc, EIGHT_FRAMES)?;
     assert_eq!(rt; whole.len(), 61);
-    let cut = &whole[..60];
+    let mut cut = Vec::from_slice(alloc, &whole)?;
+    cut.truncate(60);
     // the second access unit is 40: its part 0 is present, and no bit of its length is there
     let mut short = Vec::from_slice(alloc, &whole)?;
     short[23] = 0xA0;
@@ -50,7 +51,7 @@ fn plays_leading_elements(rt: HostRuntime) -> Result<(), Fail> {
     let rows: [Row<'_>; 7] = [
         (&whole, &[1, 7, 28, 40, 13, 31, 108, 335], ""),
         (
-            cut,
+            &cut,
             &[1, 7, 28, 40, 13, 31, 108],
             "refused: byte 55: truncated\n",
         ),
