@@ -1,6 +1,7 @@
 -- AudioMuxElement(1), field by field (ISO/IEC 14496-3).
-use Rattle.std.specs.Prelude.{◌≡◌, ℕ, ◌+◌, Bool, true, false, not, ◌||◌, List, length, Option, Some, None, is_some, Result, IfOk, IfErr, IsErrAnd, if◌then◌else◌}
+use Rattle.std.specs.Prelude.{ℕ, ◌+◌, Bool, not, ◌||◌, List, length, Option, Some, None, is_some, if◌then◌else◌}
 use Rattle.layout.specs.Layout.{Layout, both, shaped, wrapped, checked, where_set}
+use Rattle.layout.specs.Laws.{SpellsOnce}
 use Rattle.layout.specs.Times.{times}
 use Rattle.layout.specs.ToEnd.{rest}
 use Rattle.bit_core.specs.declared.faults.ReadFault.TheVariants as reads
@@ -69,16 +70,6 @@ element before = shaped
     (λ (config, (slots, (other, tail))). record { config = config; slots = slots; other = other; tail = tail })
     (both (opening (is_some before)) (λ own. body (then_in_force before own)))
 
--- What a reader of a whole text promises. Only all of the text counts as a spelling.
-pub record ReadsText {A F : Type 0} (free : F → Bool) (L : Layout A F) (text : List Bool) (result : Result A F) : Type 0 where
-  -- what is read can be had, and the text is its spelling
-  pub found : IfOk result (λ v. L.Fits v × (text ≡ L.spelling v))
-  -- what is spelled so is read, unless memory fails
-  pub only : (v : A) → L.Fits v → text ≡ L.spelling v → IfErr result (λ f. free f ≡ true) × IfOk result (λ w. w ≡ v)
-  -- a fault is the first one, and the first one is answered
-  pub fault : IfErr result (λ f. free f ≡ false → L.Faults 0 f text)
-  pub first : (f : F) → L.Faults 0 f text → IsErrAnd result (λ g. free g ≡ false → g ≡ f)
-
 -- Whatever is in force, two elements with one spelling are the same.
 abbrev pub IsSpelledOnce : Type 0
-IsSpelledOnce = (before : Option MuxConfig) (v w : MuxElement) → (element before).Fits v → (element before).Fits w → (element before).spelling v ≡ (element before).spelling w → v ≡ w
+IsSpelledOnce = (before : Option MuxConfig) → SpellsOnce (element before)

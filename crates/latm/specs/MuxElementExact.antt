@@ -1,21 +1,17 @@
 -- An AudioMuxElement is read exactly.
-use Rattle.std.proofs.Common.{◌≡◌, ℕ, Bool, true, false, List, Option, Result, Ok, Err, refl, sym, ap, ◌∙◌}
+use Rattle.std.proofs.Common.{◌≡◌, ℕ, Bool, true, false, List, Option, refl, ap}
 use Rattle.std.specs.Prelude.{is_some, not}
-use Rattle.layout.specs.Reader.{Reader}
-use Rattle.layout.specs.Layout.{Layout}
 use Rattle.layout.specs.Exact.{IsExact, IsExactToEnd}
-use Rattle.layout.specs.Reading.{GivesUnless, ReadsAllUnless}
-use Rattle.layout.proofs.Layouts.{both-exact, shaped-exact, wrapped-exact, checked-exact, where_set-exact, times-exact, ok_is}
-use Rattle.layout.proofs.ToEnd.{both-to_end, shaped-to_end, rest-to_end, reads_all_unless, all_unless_back}
+use Rattle.layout.proofs.Layouts.{both-exact, shaped-exact, wrapped-exact, checked-exact, where_set-exact, times-exact}
+use Rattle.layout.proofs.ToEnd.{both-to_end, shaped-to_end, rest-to_end}
+use Rattle.layout.proofs.Whole.{spells_once}
 use Rattle.bit_core.proofs.PlainFacts.{bit-exact, octets-exact, bit_run-exact}
 use Rattle.bit_core.specs.declared.faults.ReadFault.TheVariants as reads
 use Rattle.esc_value.proofs.SlotExact.{slot_exact}
 use Rattle.latm.specs.declared.mux_config.MuxConfig.{MuxConfig}
 use Rattle.latm.specs.Faults.{from_short, from_read}
 use Rattle.latm.specs.MuxConfigExact.{mux_config_exact}
-use Rattle.latm.specs.declared.fault.MuxFault.{MuxFault}
-use Rattle.latm.specs.declared.mux_element.MuxElement.{MuxElement}
-use Rattle.latm.specs.MuxElement.{IsSpelledOnce, then_in_force, slot_count, other_bits, same_refused, same, opening, slot_of_bytes, body, element, ReadsText}
+use Rattle.latm.specs.MuxElement.{IsSpelledOnce, then_in_force, slot_count, other_bits, same_refused, same, opening, slot_of_bytes, body, element}
 
 same-exact : (in_force : Bool) → IsExact (same in_force)
 same-exact in_force = checked-exact (same_refused in_force) _ (wrapped-exact from_short _ bit-exact)
@@ -38,20 +34,5 @@ body-exact m = both-to_end _ _ (times-exact (slot_count m) _ slot_of_bytes-exact
 pub element_exact : (before : Option MuxConfig) → IsExactToEnd (element before)
 element_exact before = shaped-to_end _ _ _ (both-to_end _ _ (opening-exact (is_some before)) (λ own. body-exact (then_in_force before own))) (λ a h. refl) (λ b h. refl)
 
--- a text that a reader took from its first bit
-text_by : {A F : Type 0} (free : F → Bool) (L : Layout A F) (text : List Bool) (new : Reader) (r : Result A F) → ReadsAllUnless free L (record { text = text; at = 0 }) new r → ReadsText free L text r
-text_by free L text new (Ok v) reads = record { found = (reads.found.0, reads.found.1); only = reads.only; fault = reads.fault; first = reads.first }
-text_by free L text new (Err f) reads = record { found = reads.found; only = reads.only; fault = reads.fault; first = reads.first }
-
-pub reads_text : {A F : Type 0} (free : F → Bool) (L : Layout A F) → IsExactToEnd L → (text : List Bool) (new : Reader) (r : Result A F) → GivesUnless free L (record { text = text; at = 0 }) new r → ReadsText free L text r
-reads_text free L l text new (Ok v) gives = text_by free L text new (Ok v) (reads_all_unless free L l (record { text = text; at = 0 }) new (Ok v) gives tt)
-reads_text free L l text new (Err f) gives =
-    let back : Reader = record { text = new.text; at = 0 } in
-    text_by free L text back (Err f) (all_unless_back free L l (record { text = text; at = 0 }) new back f 0 gives refl refl)
-
 pub spelled_once : IsSpelledOnce
-spelled_once before v w fv fw e =
-    let start : Reader = record { text = (element before).spelling v; at = 0 } in
-    let one = (element_exact before).again start v fv refl in
-    let two = (element_exact before).again start w fw e in
-    ap (λ (x : MuxElement × Reader). x.0) (ok_is {F = MuxFault} _ _ (sym one ∙ two))
+spelled_once before = spells_once (element before) (element_exact before)

@@ -1,8 +1,9 @@
 ghost use Rattle.std.specs.Prelude.{◌≡◌, ◌≤◌, length};
 ghost use Rattle.std.specs.Option.{option_copied};
 ghost use Rattle.layout.specs.Text.{bits_of};
+ghost use Rattle.layout.specs.Reading.{ReadsText};
 ghost use Rattle.latm.specs.Faults.{is_memory};
-ghost use Rattle.latm.specs.MuxElement.{element, ReadsText};
+ghost use Rattle.latm.specs.MuxElement.{element};
 
 use crate::element_reading::read_fields;
 use crate::fault::MuxFault;

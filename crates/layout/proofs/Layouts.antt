@@ -6,7 +6,7 @@ use Rattle.std.proofs.lemmas.List.{drop_at, drop-drop, length-append, take_at, t
 use Rattle.std.specs.List.{flat_map, AllByRecursion}
 use Rattle.layout.specs.Exact.{IsField, IsExact, IsOpen}
 use Rattle.layout.specs.Fields.{Field, field, parsed, judged, number, number_parse, flag, none_refused, run, run_parse}
-use Rattle.layout.specs.Layout.{◌>>=◌, Layout, both, shaped, wrapped, error_mapped, known, where_set, FitsOption, spelling_of, whole, at_start, StopsWithin, checked, unless_refused, constant, unless_same, behind, before}
+use Rattle.layout.specs.Layout.{◌>>=◌, Layout, both, shaped, fitted, wrapped, error_mapped, known, where_set, FitsOption, spelling_of, whole, at_start, StopsWithin, checked, unless_refused, constant, unless_same, behind, before}
 use Rattle.layout.specs.Reader.{Reader, left, moved}
 use Rattle.layout.specs.Reading.{Gives, GivesUnless, Reads, ReadsUnless}
 use Rattle.layout.specs.Text.{num, value_after}
@@ -138,6 +138,26 @@ shaped-exact {A} {B} {F} parts made H h back there = record {
       subst (λ (y : B × Reader). L.Fits y.0 × (left r ≡ L.spelling y.0 ++ left y.1) × (y.1 ≡ moved r (length (L.spelling y.0)))) (ok_is {F = F} made_is (v, s) a.2)
       (rw (back a.0.0 t.0) t);
   again = λ r v u fits e. rw (h.again r (parts v) u fits e, there v fits) refl;
+  blames = λ r f e.
+      elim (bind_err (H.read r) (λ x. Ok (made x.0, x.1)) f e) [
+        | inl bad ↦ h.blames r f bad
+        | inr a ↦ absurd (let never = a.2 in cc)
+      ];
+  only = λ r f bad. rw (h.only r f bad) refl;
+}
+
+-- what is made of parts that fit does fit, and what fits is made of its parts
+pub fitted-exact : {A B F : Type 0} (fits : B → Type 0) (parts : B → A) (made : A → B) (H : Layout A F) → IsExact H
+    → ((a : A) → H.Fits a → parts (made a) ≡ a) → ((a : A) → H.Fits a → fits (made a)) → ((b : B) → fits b → H.Fits (parts b) × (made (parts b) ≡ b)) → IsExact (fitted fits parts made H)
+fitted-exact {A} {B} {F} fits parts made H h back good there = record {
+  takes = λ r s v e.
+      let a = bind_ok (H.read r) (λ x. Ok (made x.0, x.1)) (v, s) e in
+      let t = h.takes r a.0.1 a.0.0 a.1 in
+      let made_is : B × Reader = (made a.0.0, a.0.1) in
+      let L = fitted fits parts made H in
+      subst (λ (y : B × Reader). L.Fits y.0 × (left r ≡ L.spelling y.0 ++ left y.1) × (y.1 ≡ moved r (length (L.spelling y.0)))) (ok_is {F = F} made_is (v, s) a.2)
+      (rw (back a.0.0 t.0) (good a.0.0 t.0, t.1, t.2));
+  again = λ r v u fit e. let f = there v fit in rw (h.again r (parts v) u f.0 e, f.1) refl;
   blames = λ r f e.
       elim (bind_err (H.read r) (λ x. Ok (made x.0, x.1)) f e) [
         | inl bad ↦ h.blames r f bad

@@ -1,5 +1,7 @@
 pub mod TextLemmas
 pub mod Layouts
 pub mod Counted
+pub mod EachExact
 pub mod ToEnd
+pub mod Whole
 pub mod TaggedExact

@@ -1,10 +1,9 @@
 -- A tag, and what stands behind it, are read exactly.
-use Rattle.std.proofs.Common.{◌≡◌, ℕ, ◌+◌, Bool, true, false, List, [], ◌++◌, length, Option, Some, None, Result, Ok, Err, refl, sym, ap, subst, ◌∙◌, append_assoc, arith, inl, inr}
-use Rattle.std.specs.Prelude.{◌⊎◌}
+use Rattle.std.proofs.Common.{◌≡◌, ℕ, ◌+◌, Bool, List, ◌++◌, length, Option, Some, None, Ok, refl, sym, ap, subst, ◌∙◌, append_assoc, inl, inr}
 use Rattle.layout.specs.Reader.{Reader, left, moved}
-use Rattle.layout.specs.Layout.{◌>>=◌, Layout}
+use Rattle.layout.specs.Layout.{Layout}
 use Rattle.layout.specs.Exact.{IsExact}
-use Rattle.layout.proofs.Layouts.{bind_ok, bind_err, done, failed, ok_is, err_is, left_moved, moved_twice}
+use Rattle.layout.proofs.Layouts.{bind_ok, bind_err, done, ok_is, left_moved, moved_twice}
 use Rattle.layout.specs.Tagged.{tagged, as_variant, FitsIn, spelling_in}
 
 pub tagged-exact : {A B F : Type 0} (tag : B → A) (H : Layout A F) (K : A → Layout B F) → IsExact H → ((a : A) → IsExact (K a)) → ((a : A) (v : B) → H.Fits a → (K a).Fits v → tag v ≡ a) → IsExact (tagged tag H K)

@@ -1,10 +1,10 @@
 -- Layouts that take all of a text.
-use Rattle.std.proofs.Common.{◌≡◌, ℕ, ◌+◌, ◌<◌, ◌≤◌, Bool, true, false, List, ◌++◌, length, take, drop, Result, Ok, Err, refl, sym, ap, subst, ◌∙◌, arith, inl, inr}
-use Rattle.std.specs.Prelude.{◌⊎◌, OnErr, IfErr}
+use Rattle.std.proofs.Common.{◌≡◌, ℕ, ◌+◌, ◌<◌, ◌≤◌, Bool, List, ◌++◌, length, take, drop, Result, Ok, Err, refl, sym, ap, subst, ◌∙◌, arith, inl, inr}
+use Rattle.std.specs.Prelude.{◌⊎◌, OnErr}
 use Rattle.std.proofs.lemmas.Bool.{cases_lt, le-ltb, lt-ltb}
 use Rattle.std.proofs.lemmas.List.{length-append, length-take, take-append-drop, drop-take, take_at}
 use Rattle.layout.specs.Exact.{IsExact, IsExactToEnd}
-use Rattle.layout.specs.Layout.{◌>>=◌, Layout, both, shaped}
+use Rattle.layout.specs.Layout.{◌>>=◌, Layout, both, shaped, fitted}
 use Rattle.layout.specs.Reader.{Reader, left, moved}
 use Rattle.layout.specs.Laws.{Begins, IsDecided}
 use Rattle.layout.specs.Reading.{GivesUnless, ReadsAllUnless}
@@ -72,6 +72,26 @@ shaped-to_end {A} {B} {F} parts made H h back there = record {
       subst (λ (y : B × Reader). L.Fits y.0 × (left r ≡ L.spelling y.0) × (y.1 ≡ moved r (length (L.spelling y.0)))) (ok_is {F = F} made_is (v, s) a.2)
       (rw (back a.0.0 t.0) t);
   again = λ r v fits e. rw (h.again r (parts v) fits e, there v fits) refl;
+  blames = λ r f e.
+      elim (bind_err (H.read r) (λ x. Ok (made x.0, x.1)) f e) [
+        | inl bad ↦ h.blames r f bad
+        | inr a ↦ absurd (let never = a.2 in cc)
+      ];
+  only = λ r f bad. rw (h.only r f bad) refl;
+}
+
+-- what is made of parts that fit does fit, and what fits is made of its parts
+pub fitted-to_end : {A B F : Type 0} (fits : B → Type 0) (parts : B → A) (made : A → B) (H : Layout A F) → IsExactToEnd H
+    → ((a : A) → H.Fits a → parts (made a) ≡ a) → ((a : A) → H.Fits a → fits (made a)) → ((b : B) → fits b → H.Fits (parts b) × (made (parts b) ≡ b)) → IsExactToEnd (fitted fits parts made H)
+fitted-to_end {A} {B} {F} fits parts made H h back good there = record {
+  takes = λ r s v e.
+      let a = bind_ok (H.read r) (λ x. Ok (made x.0, x.1)) (v, s) e in
+      let t = h.takes r a.0.1 a.0.0 a.1 in
+      let made_is : B × Reader = (made a.0.0, a.0.1) in
+      let L = fitted fits parts made H in
+      subst (λ (y : B × Reader). L.Fits y.0 × (left r ≡ L.spelling y.0) × (y.1 ≡ moved r (length (L.spelling y.0)))) (ok_is {F = F} made_is (v, s) a.2)
+      (rw (back a.0.0 t.0) (good a.0.0 t.0, t.1, t.2));
+  again = λ r v fit e. let f = there v fit in rw (h.again r (parts v) f.0 e, f.1) refl;
   blames = λ r f e.
       elim (bind_err (H.read r) (λ x. Ok (made x.0, x.1)) f e) [
         | inl bad ↦ h.blames r f bad

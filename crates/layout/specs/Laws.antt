@@ -1,5 +1,5 @@
 -- What is true of every layout that is read exactly.
-use Rattle.std.specs.Prelude.{◌≡◌, ◌⊎◌, Bool, List, ◌++◌, Result, OnErr}
+use Rattle.std.specs.Prelude.{◌≡◌, ◌⊎◌, Bool, List, ◌++◌, Option, Some, None, Result, Ok, Err, OnErr}
 use Rattle.layout.specs.Reader.{Reader}
 use Rattle.layout.specs.Layout.{Layout}
 use Rattle.layout.specs.Reading.{Gives, GivesUnless, Reads, ReadsUnless}
@@ -20,6 +20,33 @@ Begins {A} L t = (v : A) × (u : List Bool) × L.Fits v × (t ≡ L.spelling v +
 pub record IsDecided {A F : Type 0} (L : Layout A F) : Type 0 where
   pub one_of : (t : List Bool) → Begins L t ⊎ ((f : F) × L.Faults 0 f t)
   pub not_both : (f : F) (t : List Bool) → Begins L t → L.Faults 0 f t → ⊥
+
+-- Of a layout that takes all of a text: two values with one spelling are the same.
+abbrev pub SpellsOnce : {A F : Type 0} → Layout A F → Type 0
+SpellsOnce {A} L = (v w : A) → L.Fits v → L.Fits w → L.spelling v ≡ L.spelling w → v ≡ w
+
+-- the text is the spelling of a value in which nothing is refused
+abbrev pub IsSpelling : {A F : Type 0} → Layout A F → List Bool → Type 0
+IsSpelling {A} L t = (v : A) × L.Fits v × (t ≡ L.spelling v)
+
+-- A text is such a spelling or has a fault, and not both; and it has one fault at most.
+pub record IsDecidedWhole {A F : Type 0} (L : Layout A F) : Type 0 where
+  pub one_of : (t : List Bool) → IsSpelling L t ⊎ ((f : F) × L.Faults 0 f t)
+  pub not_both : (t : List Bool) (f : F) → IsSpelling L t → L.Faults 0 f t → ⊥
+  pub one_fault : (t : List Bool) (f g : F) → L.Faults 0 f t → L.Faults 0 g t → f ≡ g
+
+abbrev pub value_read : {A F : Type 0} → Result (A × Reader) F → Option A
+value_read (Ok x) = Some x.0
+value_read (Err f) = None
+
+-- The value whose spelling a text is, if there is one: what the layout reads of it. `IsValueOf` says that this is so.
+abbrev pub value_of : {A F : Type 0} → Layout A F → List Bool → Option A
+value_of L t = value_read (L.read (record { text = t; at = 0 }))
+
+-- It is that value exactly where the text is its spelling.
+pub record IsValueOf {A F : Type 0} (L : Layout A F) : Type 0 where
+  pub is : (t : List Bool) (v : A) → value_of L t ≡ Some v → L.Fits v × (t ≡ L.spelling v)
+  pub found : (t : List Bool) (v : A) → L.Fits v → t ≡ L.spelling v → value_of L t ≡ Some v
 
 -- What a call gives by the reading function, going back where it failed, is what a reader promises.
 abbrev pub IsRead : {A F : Type 0} → Layout A F → Type 0

@@ -40,6 +40,15 @@ shaped parts made H = record {
   read = λ r. H.read r >>= λ x. Ok (made x.0, x.1);
 }
 
+-- the same bits, whose values have other shapes; which of these fit is said by itself
+abbrev pub fitted : {A B F : Type 0} → (B → Type 0) → (B → A) → (A → B) → Layout A F → Layout B F
+fitted fits parts made H = record {
+  Fits = fits;
+  spelling = λ v. H.spelling (parts v);
+  Faults = H.Faults;
+  read = λ r. H.read r >>= λ x. Ok (made x.0, x.1);
+}
+
 abbrev pub error_mapped : {A F G : Type 0} → (F → G) → Result A F → Result A G
 error_mapped wrap (Ok x) = Ok x
 error_mapped wrap (Err e) = Err (wrap e)

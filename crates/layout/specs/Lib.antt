@@ -3,6 +3,7 @@ pub mod Reader
 pub mod Layout
 pub mod Fields
 pub mod Times
+pub mod Each
 pub mod ToEnd
 pub mod Exact
 pub mod Reading

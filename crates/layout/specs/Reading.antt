@@ -30,6 +30,16 @@ pub record ReadsAllUnless {A F : Type 0} (free : F → Bool) (L : Layout A F) (o
   pub first : (f : F) → L.Faults old.at f (left old) → IsErrAnd result (λ g. free g ≡ false → g ≡ f)
   pub unchanged : OnErr result (new ≡ old)
 
+-- What a reader of a whole text promises. Only all of the text counts as a spelling.
+pub record ReadsText {A F : Type 0} (free : F → Bool) (L : Layout A F) (text : List Bool) (result : Result A F) : Type 0 where
+  -- what is read can be had, and the text is its spelling
+  pub found : IfOk result (λ v. L.Fits v × (text ≡ L.spelling v))
+  -- what is spelled so is read, unless memory fails
+  pub only : (v : A) → L.Fits v → text ≡ L.spelling v → IfErr result (λ f. free f ≡ true) × IfOk result (λ w. w ≡ v)
+  -- a fault is the first one, and the first one is answered
+  pub fault : IfErr result (λ f. free f ≡ false → L.Faults 0 f text)
+  pub first : (f : F) → L.Faults 0 f text → IsErrAnd result (λ g. free g ≡ false → g ≡ f)
+
 -- the reader is in the same text, and not before where it was
 abbrev pub IsOnwards : Reader → Reader → Type 0
 IsOnwards old new = (new.text ≡ old.text) × (old.at ≤ new.at)

@@ -1,6 +1,5 @@
 -- Values of several kinds: a first part that the rest of a value says again, as the kind of an enum's variant.
-use Rattle.std.specs.Prelude.{◌≡◌, ℕ, ◌+◌, ◌⊎◌, Bool, List, [], ◌++◌, length, Option, Some, None, Result, Ok}
-use Rattle.layout.specs.Reader.{Reader}
+use Rattle.std.specs.Prelude.{◌≡◌, ◌+◌, ◌⊎◌, Bool, List, [], ◌++◌, length, Option, Some, None, Ok}
 use Rattle.layout.specs.Layout.{◌>>=◌, Layout}
 
 -- A tag, and behind it what stands there for this tag. The tag of a value is known from the value.

@@ -1,9 +1,8 @@
 -- The frame that an access unit is, and its unit (ISO/IEC 23003-3, UsacFrame).
-use Rattle.std.specs.Prelude.{◌≡◌, ℕ, Bool, false, List, [], Option, Some, None, Result, Ok, Err}
+use Rattle.std.specs.Prelude.{◌≡◌, ℕ, false, List, [], Option, Some, None}
 use Rattle.layout.specs.Text.{bits_of}
-use Rattle.layout.specs.Reader.{Reader}
+use Rattle.layout.specs.Laws.{value_of}
 use Rattle.usac_cfg.specs.declared.usac_config.UsacConfig.{UsacConfig}
-use Rattle.usac_frame.specs.declared.fault.FrameFault.{FrameFault}
 use Rattle.usac_frame.specs.declared.frame.Frame.{Frame}
 use Rattle.usac_frame.specs.Frame.{FitsConfig, frame, frame_text}
 use Rattle.usac_frame.specs.Units.{UnitValue, unit_of}
@@ -13,13 +12,9 @@ pub record IsFrame (c : UsacConfig) (au : List ℕ) (f : Frame) : Type 0 where
   pub fits : FitsConfig c f
   pub spelled : bits_of au ≡ frame_text c f
 
-abbrev pub value_read : Result (Frame × Reader) FrameFault → Option Frame
-value_read (Ok x) = Some x.0
-value_read (Err e) = None
-
 -- The frame that an access unit is, if it is one: what the layout reads of all its bits. `IsFrameOf` says that this is so.
 abbrev pub frame_of : UsacConfig → List ℕ → Option Frame
-frame_of c au = value_read (let L = frame c in L.read (record { text = bits_of au; at = 0 }))
+frame_of c au = value_of (frame c) (bits_of au)
 
 -- It is that frame exactly where the access unit is it.
 pub record IsFrameOf : Type 0 where

@@ -1,6 +1,7 @@
 -- A frame, field by field (ISO/IEC 23003-3, UsacFrame).
-use Rattle.std.specs.Prelude.{◌≡◌, Bool, true, false, List, [], ◌∷◌, Result, IfOk, IfErr, IsErrAnd}
-use Rattle.layout.specs.Layout.{Layout, both}
+use Rattle.std.specs.Prelude.{Bool, List, [], ◌∷◌}
+use Rattle.layout.specs.Layout.{Layout, both, fitted}
+use Rattle.layout.specs.Each.{FitEach, each_text, each}
 use Rattle.layout.specs.ToEnd.{rest}
 use Rattle.usac_cfg.specs.declared.element_config.ElementConfig.{ElementConfig}
 use Rattle.usac_cfg.specs.declared.element_config.ElementConfig.TheVariants.{Single, Pair, Lfe, Ext}
@@ -9,8 +10,6 @@ use Rattle.usac_cfg.specs.declared.usac_config.UsacConfig.{UsacConfig}
 use Rattle.usac_frame.specs.declared.fault.FrameFault.{FrameFault}
 use Rattle.usac_frame.specs.declared.frame.Frame.{Frame}
 use Rattle.usac_frame.specs.declared.part.ExtPart.{ExtPart}
-use Rattle.usac_frame.specs.Faults.{is_memory}
-use Rattle.usac_frame.specs.Each.{FitEach, each_text, each, fitted}
 use Rattle.usac_frame.specs.Part.{flag, IsPart, part, part_text}
 
 -- the extension elements before the first other element
@@ -52,13 +51,3 @@ frame_text c = let L = frame c in L.spelling
 -- the first fault of an access unit, of which all bits are to be a frame
 abbrev pub FrameFaults : UsacConfig → FrameFault → List Bool → Type 0
 FrameFaults c e bits = let L = frame c in L.Faults 0 e bits
-
--- What reading an access unit with these bits promises.
-pub record ReadsFrame (c : UsacConfig) (bits : List Bool) (result : Result Frame FrameFault) : Type 0 where
-  -- what is read fits the configuration, and the access unit is this frame
-  pub found : IfOk result (λ f. FitsConfig c f × (bits ≡ frame_text c f))
-  -- the frame that the access unit is is read, unless memory fails
-  pub only : (f : Frame) → FitsConfig c f → bits ≡ frame_text c f → IfErr result (λ e. is_memory e ≡ true) × IfOk result (λ g. g ≡ f)
-  -- a fault is the first one, and the first one is answered
-  pub fault : IfErr result (λ e. is_memory e ≡ false → FrameFaults c e bits)
-  pub first : (e : FrameFault) → FrameFaults c e bits → IsErrAnd result (λ g. is_memory g ≡ false → g ≡ e)

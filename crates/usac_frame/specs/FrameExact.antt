@@ -1,88 +1,46 @@
 -- A frame is read exactly, and what follows from it.
-use Rattle.std.proofs.Common.{◌≡◌, ℕ, zero, suc, ◌-◌, ◌%◌, Bool, false, List, [], ◌∷◌, ◌++◌, length, take, drop, replicate, Result, Ok, Err, refl, sym, ap, subst, ◌∙◌, append_assoc, arith, inl, inr}
-use Rattle.std.specs.Prelude.{◌⊎◌}
-use Rattle.layout.specs.Reader.{Reader}
-use Rattle.layout.specs.Layout.{both, shaped}
-use Rattle.layout.specs.ToEnd.{rest}
+use Rattle.std.proofs.Common.{◌≡◌, ℕ, zero, suc, ◌-◌, ◌%◌, Bool, false, List, [], ◌∷◌, ◌++◌, length, take, drop, replicate, refl, sym, ap, ◌∙◌, append_assoc, arith}
+use Rattle.std.specs.Prelude.{◌≤◌, slice_get}
+use Rattle.std.specs.List.{AllByRecursion}
+use Rattle.std.specs.Option.{option_map_or}
+use Rattle.layout.specs.Each.{FitEach}
 use Rattle.layout.specs.Exact.{IsExact, IsExactToEnd}
-use Rattle.layout.specs.Reading.{GivesUnless, ReadsAllUnless}
-use Rattle.layout.proofs.Layouts.{ok_is, err_is}
-use Rattle.layout.proofs.ToEnd.{both-to_end, shaped-to_end, same-to_end, rest-to_end, reads_all_unless, all_unless_back}
+use Rattle.layout.proofs.EachExact.{each-exact}
+use Rattle.layout.proofs.ToEnd.{both-to_end, fitted-to_end, rest-to_end}
+use Rattle.layout.proofs.Whole.{spells_once, decided_whole, value_of_is}
 use Rattle.usac_cfg.specs.declared.element_config.ElementConfig.{ElementConfig}
 use Rattle.usac_cfg.specs.declared.element_config.ElementConfig.TheVariants.{Single, Pair, Lfe, Ext}
 use Rattle.usac_cfg.specs.declared.ext_config.ExtConfig.{ExtConfig}
 use Rattle.usac_cfg.specs.declared.usac_config.UsacConfig.{UsacConfig}
-use Rattle.usac_cfg.specs.UsacConfig.{leading_of}
-use Rattle.usac_frame.specs.declared.fault.FrameFault.{FrameFault}
+use Rattle.usac_cfg.specs.ElementConfig.{IsWellFormed as IsElementWellFormed}
+use Rattle.usac_cfg.specs.UsacConfig.{has_sbr, leading_of}
 use Rattle.usac_frame.specs.declared.frame.Frame.{Frame}
 use Rattle.usac_frame.specs.declared.part.ExtPart.{ExtPart}
-use Rattle.usac_frame.specs.Faults.{is_memory}
-use Rattle.usac_frame.specs.Each.{FitEach}
-use Rattle.usac_frame.specs.Part.{flag, IsPart, part, part_text}
-use Rattle.usac_frame.specs.Frame.{leading, leading_exts, parts_text, parts, frame, frame_text, FrameFaults, ReadsFrame}
-use Rattle.usac_frame.specs.Units.{preroll_parts}
-use Rattle.usac_frame.specs.Laws.{IsSpelledOnce, IsSomeFrame, IsDecided, with_zeros, IsReadBack, HasPartOfEach, IsSplitAtPreroll}
-use Rattle.usac_frame.specs.AccessUnit.{IsFrame, IsFrameOf, value_read}
+use Rattle.usac_frame.specs.declared.part.ExtPart.TheVariants.{Absent, Present}
+use Rattle.usac_frame.specs.declared.part.LengthForm.{LengthForm}
+use Rattle.usac_frame.specs.declared.part.LengthForm.TheVariants.{Default, Byte, Long}
+use Rattle.usac_frame.specs.Part.{HasLength, IsPart, part, part_text}
+use Rattle.usac_frame.specs.Frame.{FitsConfig, leading, leading_exts, parts_text, parts, frame, frame_text}
+use Rattle.usac_frame.specs.Units.{preroll_parts, payload_of}
+use Rattle.usac_frame.specs.Laws.{IsSpelledOnce, IsDecided, with_zeros, IsReadBack, HasPartOfEach, IsSplitAtPreroll, HasSmallPayload}
+use Rattle.usac_frame.specs.AccessUnit.{IsFrameOf}
 use Rattle.layout.specs.Text.{bits_of}
-use Rattle.std.specs.Prelude.{ℕ, Option, Some, None}
-use Rattle.usac_frame.specs.EachExact.{each-exact}
+use Rattle.std.specs.Prelude.{ℕ}
 use Rattle.usac_frame.specs.PartExact.{flag-exact, part_exact}
 
 parts-exact : (exts : List ExtConfig) → IsExact (parts exts)
 parts-exact exts = each-exact part part_exact exts
 
 pub frame_exact : (c : UsacConfig) → IsExactToEnd (frame c)
-frame_exact c =
-    let H = both flag (λ _. both (parts (leading_exts c)) (λ _. rest)) in
-    same-to_end (shaped {B = Frame} (λ f. (f.independent, (f.leading, f.rest))) (λ (independent, (leading, rest)). record { independent = independent; leading = leading; rest = rest }) H) (frame c)
-    (shaped-to_end _ _ _ (both-to_end _ _ flag-exact (λ _. both-to_end _ _ (parts-exact (leading_exts c)) (λ _. rest-to_end))) (λ a h. refl) (λ b h. refl))
-    (λ f fits. (((tt, refl), (fits, tt)), refl)) (λ f h. (h.1.0, refl)) (λ r. refl) (λ at e t bad. bad) (λ at e t bad. bad)
-
--- ---- what a call promises
-
-frame_by : (c : UsacConfig) (text : List Bool) (new : Reader) (r : Result Frame FrameFault) → ReadsAllUnless is_memory (frame c) (record { text = text; at = 0 }) new r → ReadsFrame c text r
-frame_by c text new (Ok f) reads = record { found = (reads.found.0, reads.found.1); only = reads.only; fault = reads.fault; first = reads.first }
-frame_by c text new (Err e) reads = record { found = reads.found; only = reads.only; fault = reads.fault; first = reads.first }
-
-pub reads_frame : (c : UsacConfig) (text : List Bool) (new : Reader) (r : Result Frame FrameFault) → GivesUnless is_memory (frame c) (record { text = text; at = 0 }) new r → ReadsFrame c text r
-reads_frame c text new (Ok f) gives = frame_by c text new (Ok f) (reads_all_unless is_memory (frame c) (frame_exact c) (record { text = text; at = 0 }) new (Ok f) gives tt)
-reads_frame c text new (Err e) gives =
-    let back : Reader = record { text = new.text; at = 0 } in
-    frame_by c text back (Err e) (all_unless_back is_memory (frame c) (frame_exact c) (record { text = text; at = 0 }) new back e 0 gives refl refl)
+frame_exact c = fitted-to_end (FitsConfig c) _ _ _ (both-to_end _ _ flag-exact (λ _. both-to_end _ _ (parts-exact (leading_exts c)) (λ _. rest-to_end))) (λ a h. refl) (λ a h. h.1.0) (λ f fits. (((tt, refl), (fits, tt)), refl))
 
 -- ---- laws
 
-abbrev start : List Bool → Reader
-start bits = record { text = bits; at = 0 }
-
 pub spelled_once : IsSpelledOnce
-spelled_once c f g ff fg e =
-    let r = start (frame_text c f) in
-    let one = (frame_exact c).again r f ff refl in
-    let two = (frame_exact c).again r g fg e in
-    ap (λ (x : Frame × Reader). x.0) (ok_is {F = FrameFault} _ _ (sym one ∙ two))
-
-one_of : (c : UsacConfig) (bits : List Bool) → IsSomeFrame c bits ⊎ ((e : FrameFault) × FrameFaults c e bits)
-one_of c bits =
-    let r = start bits in
-    let L = frame c in
-    let go : (q : Result (Frame × Reader) FrameFault) → L.read r ≡ q → IsSomeFrame c bits ⊎ ((e : FrameFault) × FrameFaults c e bits) = elim [
-      | Ok x ↦ λ is. let t = (frame_exact c).takes r x.1 x.0 is in inl (x.0, t.0, t.1)
-      | Err e ↦ λ is. inr (e, (frame_exact c).blames r e is)
-    ] in
-    go (L.read r) refl
-
-not_both : (c : UsacConfig) (bits : List Bool) (e : FrameFault) → IsSomeFrame c bits → FrameFaults c e bits → ⊥
-not_both c bits e some bad =
-    let a = (frame_exact c).again (start bits) some.0 some.1 some.2 in
-    let b = (frame_exact c).only (start bits) e bad in
-    cc
-
-one_fault : (c : UsacConfig) (bits : List Bool) (e g : FrameFault) → FrameFaults c e bits → FrameFaults c g bits → e ≡ g
-one_fault c bits e g a b = err_is {A = Frame × Reader} e g (sym ((frame_exact c).only (start bits) e a) ∙ (frame_exact c).only (start bits) g b)
+spelled_once c = spells_once (frame c) (frame_exact c)
 
 pub decided : IsDecided
-decided = record { one_of = one_of; not_both = not_both; one_fault = one_fault }
+decided c = decided_whole (frame c) (frame_exact c)
 
 zeros_behind : (c : UsacConfig) (f : Frame) (n : ℕ) → frame_text c f ++ replicate n false ≡ frame_text c (with_zeros f n)
 zeros_behind c f n = ap (λ (t : List Bool). f.independent ∷ t) (append_assoc (parts_text (leading_exts c) f.leading) f.rest (replicate n false))
@@ -127,15 +85,30 @@ split_at_preroll c f fits =
 
 -- ---- the frame of an access unit
 
-read_is : (c : UsacConfig) (au : List ℕ) (f : Frame) (q : Result (Frame × Reader) FrameFault) → (frame c).read (record { text = bits_of au; at = 0 }) ≡ q → value_read q ≡ Some f → IsFrame c au f
-read_is c au f (Ok x) is e =
-    let t = (frame_exact c).takes (record { text = bits_of au; at = 0 }) x.1 x.0 is in
-    let same : x.0 ≡ f = cc e in
-    subst (λ (g : Frame). IsFrame c au g) same (record { fits = t.0; spelled = t.1 })
-read_is c au f (Err e) is never = absurd cc
-
 pub frame_of_is : IsFrameOf
 frame_of_is = record {
-  is = λ c au f e. read_is c au f ((frame c).read (record { text = bits_of au; at = 0 })) refl e;
-  found = λ c au f is. ap value_read ((frame_exact c).again (record { text = bits_of au; at = 0 }) f is.fits is.spelled);
+  is = λ c au f e. let v = (value_of_is (frame c) (frame_exact c)).is (bits_of au) f e in record { fits = v.0; spelled = v.1 };
+  found = λ c au f is. (value_of_is (frame c) (frame_exact c)).found (bits_of au) f is.fits is.spelled;
 }
+
+-- ---- the length of a payload
+
+length_small : (default : ℕ) (form : LengthForm) (n : ℕ) → default ≤ 65791 → HasLength default form n → n ≤ 65791
+length_small default Default n le h = omega (arith, h)
+length_small default Byte n le h = omega (arith, h)
+length_small default Long n le h = omega (arith, h.1)
+
+part_small : (e : ExtConfig) (p : ExtPart) → e.default_length ≤ 65791 → IsPart e p → length (payload_of p) ≤ 65791
+part_small e Absent le h = omega arith
+part_small e (Present form start stop payload) le h = length_small e.default_length form (length payload) le h.size
+
+parts_small : (b : Bool) (es : List ElementConfig) (ps : List ExtPart) → AllByRecursion (IsElementWellFormed b) es → FitEach IsPart (leading es) ps → length (option_map_or payload_of (slice_get ps 0) []) ≤ 65791
+parts_small b es [] w h = omega arith
+parts_small b [] (p ∷ ps) w h = absurd h
+parts_small b (Single core s ∷ es) (p ∷ ps) w h = absurd h
+parts_small b (Pair core s n m ∷ es) (p ∷ ps) w h = absurd h
+parts_small b (Lfe ∷ es) (p ∷ ps) w h = absurd h
+parts_small b (Ext e ∷ es) (p ∷ ps) w h = part_small e p w.0.default_length h.0
+
+pub payload_small : HasSmallPayload
+payload_small c f w fits = parts_small (has_sbr c.frame_index) c.elements f.leading w.lists.elements fits

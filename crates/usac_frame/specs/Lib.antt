@@ -1,10 +1,8 @@
 pub mod Faults
-pub mod Each
 pub mod Part
 pub mod Frame
 pub mod Units
 pub mod AccessUnit
 pub mod Laws
-pub mod EachExact
 pub mod PartExact
 pub mod FrameExact

@@ -1,7 +1,7 @@
 -- What a frame has of an extension element, field by field (ISO/IEC 23003-3, UsacExtElement).
 use Rattle.std.specs.Prelude.{◌≡◌, ℕ, ◌+◌, ◌-◌, ◌<◌, ◌≤◌, Bool, true, false, not, ◌&&◌, ◌==◌, nat_lt, List, length, Option, Some, None}
 use Rattle.std.specs.List.{AllByRecursion}
-use Rattle.layout.specs.Layout.{Layout, both, wrapped, known, where_set}
+use Rattle.layout.specs.Layout.{Layout, both, fitted, wrapped, known, where_set}
 use Rattle.bit_core.specs.declared.faults.ReadFault.TheVariants as reads
 use Rattle.bit_core.specs.Plain.{bits, bit, octets}
 use Rattle.usac_cfg.specs.declared.ext_config.ExtConfig.{ExtConfig}
@@ -11,7 +11,6 @@ use Rattle.usac_frame.specs.declared.part.LengthForm.TheVariants.{Default, Byte,
 use Rattle.usac_frame.specs.declared.part.ExtPart.{ExtPart}
 use Rattle.usac_frame.specs.declared.part.ExtPart.TheVariants.{Absent, Present}
 use Rattle.usac_frame.specs.Faults.{from_short, from_read}
-use Rattle.usac_frame.specs.Each.{fitted}
 
 -- a number of n bits, one bit, and n bytes
 abbrev pub number : ℕ → Layout ℕ FrameFault

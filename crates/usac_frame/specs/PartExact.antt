@@ -4,7 +4,7 @@ use Rattle.std.specs.Prelude.{not, ◌==◌}
 use Rattle.std.specs.List.{AllByRecursion}
 use Rattle.std.proofs.lemmas.Bool.{cases_eq, ne_eqb, eqb-true}
 use Rattle.layout.specs.Exact.{IsExact}
-use Rattle.layout.proofs.Layouts.{both-exact, wrapped-exact, where_set-exact, known-exact}
+use Rattle.layout.proofs.Layouts.{both-exact, fitted-exact, wrapped-exact, where_set-exact, known-exact}
 use Rattle.bit_core.specs.declared.faults.ReadFault.TheVariants as reads
 use Rattle.bit_core.proofs.PlainFacts.{bits-exact, bit-exact, octets-exact}
 use Rattle.usac_cfg.specs.declared.ext_config.ExtConfig.{ExtConfig}
@@ -13,7 +13,6 @@ use Rattle.usac_frame.specs.declared.part.LengthForm.TheVariants.{Default, Byte,
 use Rattle.usac_frame.specs.declared.part.ExtPart.{ExtPart}
 use Rattle.usac_frame.specs.declared.part.ExtPart.TheVariants.{Absent, Present}
 use Rattle.usac_frame.specs.Faults.{from_short, from_read}
-use Rattle.usac_frame.specs.EachExact.{fitted-exact}
 use Rattle.usac_frame.specs.Part.{number, flag, run_of_bytes, HasLength, coded_length, coded, decoded, part_length, has_marks, AreMarks, marks, part_fields, fields_of, part_of, IsPart, part}
 
 number-exact : (n : ℕ) → IsExact (number n)

@@ -1,6 +1,8 @@
 ghost use Rattle.std.specs.Prelude.{◌≡◌, ◌≤◌, length, IfOk};
+ghost use Rattle.layout.specs.Reading.{ReadsText};
 ghost use Rattle.layout.specs.Text.{bits_of, pad};
-ghost use Rattle.usac_frame.specs.Frame.{FitsConfig, frame_text, ReadsFrame};
+ghost use Rattle.usac_frame.specs.Faults.{is_memory};
+ghost use Rattle.usac_frame.specs.Frame.{FitsConfig, frame, frame_text};
 
 use crate::fault::FrameFault;
 use crate::part::Parts;
@@ -37,7 +39,7 @@ pub struct Frame {
 /// or want of memory.
 pub fn read_frame(alloc: Global, config: &UsacConfig, au: &[u8]) -> Result<Frame, FrameFault>
     requires { length au.now ≤ 16777216 }
-    ensures { ReadsFrame config.now (bits_of au.now) result }
+    ensures { ReadsText is_memory (frame config.now) (bits_of au.now) result }
 {
     let mut reader = BitReader::new(au);
     read_fields(alloc, config, &mut reader)

@@ -2,7 +2,7 @@
 //!
 //! The functions run no code; their contracts are the theorems.
 ghost use Rattle.usac_frame.specs.AccessUnit.{IsFrameOf};
-ghost use Rattle.usac_frame.specs.Laws.{IsSpelledOnce, IsDecided, IsReadBack, HasPartOfEach, IsSplitAtPreroll};
+ghost use Rattle.usac_frame.specs.Laws.{IsSpelledOnce, IsDecided, IsReadBack, HasPartOfEach, IsSplitAtPreroll, HasSmallPayload};
 
 /// An access unit is at most one frame of a configuration.
 pub fn frames_are_spelled_once()
@@ -33,4 +33,9 @@ pub fn frames_are_split_at_the_preroll()
 /// The frame that is read off an access unit is the frame that it is.
 pub fn access_units_are_their_frames()
     ensures { IsFrameOf }
+{}
+
+/// Under a well formed configuration a frame that fits it has at most 65,791 bytes of payload in part 0.
+pub fn payloads_are_small()
+    ensures { HasSmallPayload }
 {}

@@ -2,7 +2,8 @@ ghost use Rattle.std.specs.Prelude.{◌≤◌, length, IfOk};
 ghost use Rattle.usac_frame.specs.Frame.{FitsConfig};
 
 use crate::{
-    ExtPart, Frame, FrameFault, LengthForm, Unit, payload_length, read_frame, unit_of, write_frame,
+    ExtPart, Frame, FrameFault, LengthForm, Unit, first_payload, is_immediate, is_whole,
+    payload_length, read_frame, unit_of, write_frame,
 };
 use bit_core::BitReader;
 use std::alloc::Global;
@@ -92,6 +93,15 @@ fn check_frame(rt: &(impl Abort + AllocGlobal), row: &FrameRow) -> Result<(), Fa
         }
         _ => panic!(rt; "no part"),
     }
+    let payload = bytes_of(rt.alloc(), wanted_payload)?;
+    let whole = wanted_start && wanted_stop;
+    assert_eq!(rt; first_payload(&frame), payload.as_slice(), "{text}");
+    assert_eq!(rt; is_whole(&frame), whole, "{text}");
+    assert_eq!(rt;
+        is_immediate(&config, &frame),
+        whole && !payload.is_empty(),
+        "{text}"
+    );
     let written = write_frame(rt.alloc(), &config, &frame)?;
     assert_eq!(rt; written.as_slice(), au.as_slice(), "{text}");
     Ok(())

@@ -93,7 +93,7 @@ frame_is f config au g c a is = subst (λ (x : List ℕ). IsFrame (config_of f) 
 pub not_short : (before : List Frame) (f : Frame) (config : UsacConfig) (au : List ℕ) (g : UsacFrame) → config ≡ config_of f → au ≡ f.au → IsFrame config au g → (r : Refusal) → IsTooShort before f r → ⊥
 not_short before f config au g c a is r short =
     let i = frame_is f config au g c a is in
-    decided.not_both (config_of f) (bits_of f.au) (faults.Short short.at) (g, i.fits, i.spelled) short.fault
+    (decided (config_of f)).not_both (bits_of f.au) (faults.Short short.at) (g, i.fits, i.spelled) short.fault
 
 pub too_short : (before : List Frame) (f : Frame) (config : UsacConfig) (au : List ℕ) (number : ℕ) (at : ℕ) (r : Refusal) → config ≡ config_of f → au ≡ f.au → number ≡ length before → FrameFaults config (faults.Short at) (bits_of au)
     → r ≡ record { place = places.FrameBit number at; reason = reasons.FrameTooShort } → IsTooShort before f r

@@ -2,9 +2,10 @@ use Rattle.std.proofs.Common.{subst}
 use Rattle.std.specs.Option.{option_copied}
 use Rattle.layout.specs.Text.{bits_of}
 use Rattle.layout.specs.Reading.{GivesUnless}
+use Rattle.layout.proofs.Whole.{reads_text}
 use Rattle.latm.specs.Faults.{is_memory}
 use Rattle.latm.specs.MuxElement.{element}
-use Rattle.latm.specs.MuxElementExact.{element_exact, reads_text}
+use Rattle.latm.specs.MuxElementExact.{element_exact}
 use Rattle.latm.proofs.mux_element.read_element.Goals as goal
 
 pub returns : goal.returns

@@ -1,6 +1,6 @@
 use Rattle.std.proofs.Common.{◌≡◌, ◌≤◌, drop}
 use Rattle.layout.proofs.Counted.{with_front}
-use Rattle.usac_frame.specs.Each.{each_read}
+use Rattle.layout.specs.Each.{each_read}
 use Rattle.usac_frame.specs.Part.{part}
 use Rattle.usac_frame.specs.Frame.{leading}
 use Rattle.usac_frame.proofs.reading.read_parts.Given as goal

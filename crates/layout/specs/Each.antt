@@ -33,12 +33,3 @@ each H xs = record {
   Faults = EachFaults H xs;
   read = each_read H xs;
 }
-
--- the same bits, whose values have other shapes; which of these fit is said by itself
-abbrev pub fitted : {A B F : Type 0} → (B → Type 0) → (B → A) → (A → B) → Layout A F → Layout B F
-fitted fits parts made H = record {
-  Fits = fits;
-  spelling = λ v. H.spelling (parts v);
-  Faults = H.Faults;
-  read = λ r. H.read r >>= λ x. Ok (made x.0, x.1);
-}
