@@ -5,6 +5,7 @@ use Rattle.std.specs.List.{flat_map, AllByRecursion}
 use Rattle.std.proofs.lemmas.List.{length-append}
 use Rattle.layout.specs.Text.{num, bits_of}
 use Rattle.layout.proofs.TextLemmas.{length-bits_of}
+use Rattle.layout.proofs.Every.{all_append}
 use Rattle.esc_value.specs.SlotLength.{slot_text}
 use Rattle.latm.specs.declared.mux_config.MuxConfig.{MuxConfig}
 use Rattle.latm.specs.declared.mux_element.MuxElement.{MuxElement}
@@ -40,10 +41,6 @@ element_short before e body m opens n is le =
     let slots = flat_map slot_of_bytes.spelling e.slots in
     let whole : bits_of body ≡ front ++ (slots ++ (e.other ++ e.tail)) = is.spelled in
     slots_short n m opens e.slots (omega (arith, le, length-bits_of body, ap (λ (t : List Bool). length t) whole, length-append front (slots ++ (e.other ++ e.tail)), length-append slots (e.other ++ e.tail)))
-
-all_append : (P : Frame → Type 0) (xs ys : List Frame) → AllByRecursion P xs → AllByRecursion P ys → AllByRecursion P (xs ++ ys)
-all_append P [] ys h k = k
-all_append P (x ∷ xs) ys h k = (h.0, all_append P xs ys h.1 k)
 
 of_one : (P : Frame → Type 0) (xs : List Frame) (x : Frame) (ys : List Frame) → AllByRecursion P (xs ++ x ∷ ys) → P x
 of_one P [] x ys h = h.0

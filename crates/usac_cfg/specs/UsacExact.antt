@@ -8,6 +8,7 @@ use Rattle.layout.specs.Layout.{FitsOption}
 use Rattle.layout.specs.Exact.{IsExact}
 use Rattle.layout.proofs.Layouts.{both-exact, shaped-exact, wrapped-exact, checked-exact, where_set-exact, known-exact, times-exact, same-exact, some_is}
 use Rattle.layout.proofs.TaggedExact.{tagged-exact, as_variant-exact}
+use Rattle.layout.proofs.Every.{all_so}
 use Rattle.bit_core.specs.declared.faults.ReadFault.TheVariants as reads
 use Rattle.bit_core.proofs.PlainFacts.{bits-exact, bit-exact, octets-exact}
 use Rattle.esc_value.specs.EscapedExact.{escaped_exact}
@@ -29,10 +30,6 @@ use Rattle.usac_cfg.specs.ElementConfig as element
 use Rattle.usac_cfg.specs.ConfigExt as config
 use Rattle.usac_cfg.specs.UsacConfig.{IsWellFormed, HasIndices, HasLists, IsExplicit, ArePositions, is_rate, is_frame, is_channels, has_sbr}
 use Rattle.usac_cfg.specs.Spelling.{number, rate_refused, zero_refused, frame_refused, channel_refused, count_refused, elements_refused, explicit, positions, elements, fields, usac_config}
-
-all_so : {A : Type 0} (P Q : A → Type 0) → ((x : A) → P x → Q x) → (xs : List A) → AllByRecursion P xs → AllByRecursion Q xs
-all_so P Q so [] h = tt
-all_so P Q so (x ∷ xs) h = (so x h.0, all_so P Q so xs h.1)
 
 -- ---- extension elements
 

@@ -1,10 +1,10 @@
 -- A part is read exactly.
-use Rattle.std.proofs.Common.{◌≡◌, ℕ, ◌+◌, ◌-◌, ◌<◌, ◌≤◌, Bool, true, false, List, [], ◌∷◌, length, Option, Some, None, refl, sym, ap, subst, ◌∙◌, arith, inl, inr}
+use Rattle.std.proofs.Common.{◌≡◌, ℕ, ◌+◌, ◌-◌, ◌<◌, ◌≤◌, Bool, true, false, List, length, Option, Some, None, refl, sym, ap, subst, ◌∙◌, arith, inl, inr}
 use Rattle.std.specs.Prelude.{not, ◌==◌}
-use Rattle.std.specs.List.{AllByRecursion}
 use Rattle.std.proofs.lemmas.Bool.{cases_eq, ne_eqb, eqb-true}
 use Rattle.layout.specs.Exact.{IsExact}
 use Rattle.layout.proofs.Layouts.{both-exact, fitted-exact, wrapped-exact, where_set-exact, known-exact}
+use Rattle.layout.proofs.Every.{all_so}
 use Rattle.bit_core.specs.declared.faults.ReadFault.TheVariants as reads
 use Rattle.bit_core.proofs.PlainFacts.{bits-exact, bit-exact, octets-exact}
 use Rattle.usac_cfg.specs.declared.ext_config.ExtConfig.{ExtConfig}
@@ -107,10 +107,6 @@ of_present o b = (b, o)
 
 abbrev of_body : LengthForm → Bool → Bool → List ℕ → ℕ → Bool × Option Body
 of_body form start stop payload n = (true, Some ((form, n), ((start, stop), payload)))
-
-all_so : {A : Type 0} (P Q : A → Type 0) → ((x : A) → P x → Q x) → (xs : List A) → AllByRecursion P xs → AllByRecursion Q xs
-all_so P Q so [] h = tt
-all_so P Q so (x ∷ xs) h = (so x h.0, all_so P Q so xs h.1)
 
 fields_back : (e : ExtConfig) (there : Bool) (o : Option Body) → (part_fields e).Fits (there, o) → fields_of (part_of (there, o)) ≡ (there, o)
 fields_back e there None fits = ap (of_present None) fits.1.0
