@@ -1,0 +1,5 @@
+pub mod Configs
+pub mod UnitFrames
+pub mod Rules
+pub mod Tried
+pub mod OneRule

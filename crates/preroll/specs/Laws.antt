@@ -1,0 +1,41 @@
+-- What is true of every preroll, and of the rules.
+use Rattle.std.specs.Prelude.{◌≡◌, ℕ, ◌<◌, Bool, true, false, List, ◌++◌, replicate, Result, IfOk, IfErr}
+use Rattle.layout.specs.Laws.{SpellsOnce, IsDecidedWhole, IsValueOf}
+use Rattle.layout.specs.Reading.{ReadsText}
+use Rattle.layout.specs.Text.{bits_of, pad}
+use Rattle.usac_cfg.specs.declared.usac_config.UsacConfig.{UsacConfig}
+use Rattle.usac_frame.specs.declared.frame.Frame.{Frame}
+use Rattle.usac_frame.specs.Units.{UnitValue}
+use Rattle.preroll.specs.declared.fault.PreFault.{PreFault}
+use Rattle.preroll.specs.declared.fault.CarryFault.{CarryFault}
+use Rattle.preroll.specs.declared.preroll.PreRoll.{PreRoll}
+use Rattle.preroll.specs.Faults.{is_memory}
+use Rattle.preroll.specs.PreRoll.{preroll, preroll_text, IsWellFormed}
+use Rattle.preroll.specs.Carried.{IsFirst, Carries}
+
+-- A payload is at most one preroll.
+abbrev pub IsSpelledOnce : Type 0
+IsSpelledOnce = SpellsOnce preroll
+
+-- A payload is a preroll, or has a fault, and not both; and it has one fault at most.
+abbrev pub IsDecided : Type 0
+IsDecided = IsDecidedWhole preroll
+
+-- The preroll that is read off a payload is the preroll that it is.
+abbrev pub IsPreRollOf : Type 0
+IsPreRollOf = IsValueOf preroll
+
+-- the preroll with so many zeros behind it
+abbrev pub with_zeros : PreRoll → ℕ → PreRoll
+with_zeros p n = record { config = p.config; fade = p.fade; reserved = p.reserved; units = p.units; tail = p.tail ++ replicate n false }
+
+-- What is written of a preroll is read as this preroll with fewer than 8 zeros behind it, unless memory fails.
+abbrev pub IsReadBack : Type 0
+IsReadBack = (p : PreRoll) (bytes : List ℕ) (result : Result PreRoll PreFault) → IsWellFormed p → bits_of bytes ≡ pad (preroll_text p) → ReadsText is_memory preroll (bits_of bytes) result
+    → (n : ℕ) × (n < 8) × IfErr result (λ e. is_memory e ≡ true) × IfOk result (λ q. q ≡ with_zeros p n)
+
+-- A frame has one first fault at most, and none where it carries units; and these are one list, with one flag.
+pub record IsJudgedOnce : Type 0 where
+  pub one_fault : (c : UsacConfig) (f : Frame) (e g : CarryFault) → IsFirst c f e → IsFirst c f g → e ≡ g
+  pub not_both : (c : UsacConfig) (f : Frame) (e : CarryFault) (fade : Bool) (us : List UnitValue) → IsFirst c f e → Carries c f fade us → ⊥
+  pub one_list : (c : UsacConfig) (f : Frame) (a b : Bool) (us vs : List UnitValue) → Carries c f a us → Carries c f b vs → (a ≡ b) × (us ≡ vs)

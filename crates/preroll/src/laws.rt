@@ -1,0 +1,29 @@
+//! What holds of every preroll, and of the rules.
+//!
+//! The functions run no code; their contracts are the theorems.
+ghost use Rattle.preroll.specs.Laws.{IsSpelledOnce, IsDecided, IsPreRollOf, IsReadBack, IsJudgedOnce};
+
+/// A payload is at most one preroll.
+pub fn prerolls_are_spelled_once()
+    ensures { IsSpelledOnce }
+{}
+
+/// A payload is a preroll exactly where it has no fault; and it has one fault at most.
+pub fn payloads_are_decided()
+    ensures { IsDecided }
+{}
+
+/// The preroll that is read off a payload is the preroll that it is.
+pub fn payloads_are_their_prerolls()
+    ensures { IsPreRollOf }
+{}
+
+/// What is written of a preroll is read as this preroll with fewer than 8 further zero bits in its tail.
+pub fn prerolls_are_read_back()
+    ensures { IsReadBack }
+{}
+
+/// A frame has one first fault at most, and none where it carries units; and these are one list.
+pub fn frames_are_judged_once()
+    ensures { IsJudgedOnce }
+{}
