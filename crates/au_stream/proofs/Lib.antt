@@ -8,3 +8,4 @@ pub mod Small
 pub mod FrameCounts
 pub mod Gathering
 pub mod Marks
+pub mod SegmentLists

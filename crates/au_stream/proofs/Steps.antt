@@ -19,10 +19,10 @@ use Rattle.au_stream.specs.declared.event.Event.{Event}
 use Rattle.au_stream.specs.declared.fault.StreamFault.{StreamFault}
 use Rattle.au_stream.specs.declared.fault.StreamFault.TheVariants.{ReadFault, TooLarge, Loas, Mux, Memory}
 use Rattle.au_stream.specs.Elements.{IsElement, Carries, in_force_behind}
-use Rattle.au_stream.specs.Frames.{Frame, config_of, frames_under, frames_from, last_of, IsChange}
+use Rattle.au_stream.specs.Frames.{Frame, config_of, frames_under, frames_from, last_of, IsChange, IsSame, TellsChange}
 use Rattle.au_stream.specs.Script.{most_bytes, Mark, End, SyncLost, BadElement, Truncated, HasFrames, IsScript, IsOpen}
 use Rattle.au_stream.specs.Reading.{Reading, pending_frames, KnowsChange, Holds, HasRead}
-use Rattle.au_stream.specs.Giving.{Changes, refused_element, TookElement, TakesElement, Gave, weight}
+use Rattle.au_stream.specs.Giving.{Changes, Keeps, Tells, refused_element, TookElement, TakesElement, Gave, weight}
 use Rattle.au_stream.specs.Taking.{Seen, Takes}
 use Rattle.au_stream.specs.Events.{IsEvent, Answers, GivenBy, Reads}
 use Rattle.au_stream.proofs.Counting.{some_in_force, slots_fit}
@@ -61,7 +61,7 @@ held_more got more given r framer h e le =
 
 -- how the first frame of an element changes what is in force
 changes_first : (before own : Option MuxConfig) (m : MuxConfig) (last : Option Frame) (f : Frame) (changed : Bool) → then_in_force before own ≡ Some m → f.mux ≡ m → before ≡ option_map (λ (g : Frame). g.mux) last
-    → IsTrue changed ↔ Changes before own → IsTrue changed ↔ IsChange last f
+    → Tells changed before own → TellsChange changed last f
 changes_first None None m last f changed there is e c = absurd (let never : None ≡ Some m = there in cc)
 changes_first None (Some own) m None f changed there is e c = c
 changes_first None (Some own) m (Some g) f changed there is e c = absurd cc
@@ -70,17 +70,17 @@ changes_first (Some b) None m (Some g) f changed there is e c =
     let b-is : b ≡ m = cc in
     let g-is : b ≡ g.mux = cc in
     let same : config_of g ≡ config_of f = ap (λ (x : MuxConfig). x.asc.usac) (sym g-is ∙ b-is ∙ sym is) in
-    (λ t. absurd (c.0 t), λ ne. absurd (ne same))
+    (λ t. absurd (c.0 t), λ e. same)
 changes_first (Some b) (Some own) m None f changed there is e c = absurd cc
 changes_first (Some b) (Some own) m (Some g) f changed there is e c =
     let own-is : own ≡ m = cc in
     let g-is : b ≡ g.mux = cc in
     let before : b.asc.usac ≡ config_of g = ap (λ (x : MuxConfig). x.asc.usac) g-is in
     let now : own.asc.usac ≡ config_of f = ap (λ (x : MuxConfig). x.asc.usac) (own-is ∙ sym is) in
-    (λ t same. c.0 t (before ∙ same ∙ sym now), λ ne. c.1 (λ same. ne (sym before ∙ same ∙ now)))
+    (λ t same. c.0 t (before ∙ same ∙ sym now), λ e. sym before ∙ c.1 e ∙ now)
 
 change_known : (before own in_force : Option MuxConfig) (m : MuxConfig) (opens : Bool) (last : Option Frame) (slots : List (List ℕ)) (changed : Bool) → in_force ≡ then_in_force before own → then_in_force before own ≡ Some m
-    → before ≡ option_map (λ (g : Frame). g.mux) last → IsTrue changed ↔ Changes before own → KnowsChange last (frames_under in_force opens slots) changed
+    → before ≡ option_map (λ (g : Frame). g.mux) last → Tells changed before own → KnowsChange last (frames_under in_force opens slots) changed
 change_known before own None m opens last slots changed is there e c = tt
 change_known before own (Some n) m opens last [] changed is there e c = tt
 change_known before own (Some n) m opens last (au ∷ slots) changed is there e c =
@@ -139,7 +139,7 @@ gives got given r new event h g = go r.in_force refl
   where
     none_left : (m : MuxConfig) (f : Frame) (slots : List (List ℕ)) → f.mux ≡ m → KnowsChange (Some f) (frames_under (Some m) false slots) false
     none_left m f [] is = tt
-    none_left m f (au ∷ slots) is = (λ t. absurd (let x : false ≡ true = t in cc), λ ne. absurd (ne (ap (λ (x : MuxConfig). x.asc.usac) is)))
+    none_left m f (au ∷ slots) is = (λ t. absurd (let x : false ≡ true = t in cc), λ e. ap (λ (x : MuxConfig). x.asc.usac) is)
 
     go : (o : Option MuxConfig) → r.in_force ≡ o → Given got given r new event
     go None e = absurd (let none = h.some e in let never : event.au ∷ g.rest ≡ [] = sym g.pending ∙ none in cc)
@@ -158,7 +158,7 @@ gives got given r new event h g = go r.in_force refl
           frame = f;
           is = record {
             number = g.number ∙ h.counted;
-            changed = subst (λ (c : Bool). IsTrue c ↔ IsChange (last_of given) f) (sym g.changed) (subst (λ (x : List Frame). KnowsChange (last_of given) x r.changed) first h.change);
+            changed = subst (λ (c : Bool). TellsChange c (last_of given) f) (sym g.changed) (subst (λ (x : List Frame). KnowsChange (last_of given) x r.changed) first h.change);
             opens = g.opens;
             au = refl;
           };

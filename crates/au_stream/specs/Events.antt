@@ -1,5 +1,5 @@
 -- What a call for the next frame answers, by the bytes of the source.
-use Rattle.std.specs.Prelude.{◌≡◌, ℕ, ◌+◌, ◌≤◌, ◌↔◌, Bool, true, List, [], ◌∷◌, ◌++◌, length, Result, Ok, Err, IsTrue}
+use Rattle.std.specs.Prelude.{◌≡◌, ℕ, ◌+◌, ◌≤◌, Bool, true, List, [], ◌∷◌, ◌++◌, length, Result, Ok, Err}
 use Rattle.std.specs.Prelude.{Some, None}
 use Rattle.std.specs.declared.option.Option.{Option}
 use Rattle.std.specs.Io.KnownBytes.{prepend_known, IsAtEnd}
@@ -7,7 +7,7 @@ use Rattle.loas.specs.declared.fault.LoasFault.TheVariants as loas
 use Rattle.au_stream.specs.declared.event.Event.{Event}
 use Rattle.au_stream.specs.declared.fault.StreamFault.{StreamFault}
 use Rattle.au_stream.specs.declared.fault.StreamFault.TheVariants.{ReadFault, TooLarge, Loas, Mux, Memory}
-use Rattle.au_stream.specs.Frames.{Frame, last_of, IsChange}
+use Rattle.au_stream.specs.Frames.{Frame, last_of, TellsChange}
 use Rattle.au_stream.specs.Script.{Mark, End, SyncLost, BadElement, Truncated, HasFrames, IsScript, IsOpen, most_bytes}
 use Rattle.au_stream.specs.Script.{TooLarge as MarkTooLarge}
 use Rattle.au_stream.specs.Reading.{Reading, HasRead}
@@ -16,7 +16,7 @@ use Rattle.au_stream.specs.Taking.{Seen, IsNeeded}
 -- the event of a frame behind those that were given
 pub record IsEvent (given : List Frame) (f : Frame) (event : Event) : Type 0 where
   pub number : event.frame ≡ length given
-  pub changed : IsTrue event.changed ↔ IsChange (last_of given) f
+  pub changed : TellsChange event.changed (last_of given) f
   pub opens : event.opens ≡ f.opens
   pub au : event.au ≡ f.au
 

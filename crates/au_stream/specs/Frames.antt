@@ -1,5 +1,5 @@
 -- The frames of elements: one access unit each.
-use Rattle.std.specs.Prelude.{◌≢◌, ℕ, Bool, false, List, [], ◌∷◌, ◌++◌, Option, Some, None, is_some}
+use Rattle.std.specs.Prelude.{◌≡◌, ◌≢◌, ℕ, Bool, false, IsTrue, List, [], ◌∷◌, ◌++◌, Option, Some, None, is_some}
 use Rattle.usac_cfg.specs.declared.usac_config.UsacConfig.{UsacConfig}
 use Rattle.latm.specs.declared.mux_config.MuxConfig.{MuxConfig}
 use Rattle.latm.specs.declared.mux_element.MuxElement.{MuxElement}
@@ -39,3 +39,12 @@ last_of (f ∷ g ∷ fs) = last_of (g ∷ fs)
 abbrev pub IsChange : Option Frame → Frame → Type 0
 IsChange None f = Unit {0}
 IsChange (Some before) f = config_of before ≢ config_of f
+
+-- The frame is not the first one, and its UsacConfig is that of the frame before.
+abbrev pub IsSame : Option Frame → Frame → Type 0
+IsSame None f = ⊥
+IsSame (Some before) f = config_of before ≡ config_of f
+
+-- this tells which of the two it is
+abbrev pub TellsChange : Bool → Option Frame → Frame → Type 0
+TellsChange changed before f = (IsTrue changed → IsChange before f) × (changed ≡ false → IsSame before f)

@@ -20,6 +20,16 @@ Changes before None = ⊥
 Changes None (Some own) = Unit {0}
 Changes (Some before) (Some own) = before.asc.usac ≢ own.asc.usac
 
+-- it leaves that as it is
+abbrev pub Keeps : Option MuxConfig → Option MuxConfig → Type 0
+Keeps before None = Unit {0}
+Keeps None (Some own) = ⊥
+Keeps (Some before) (Some own) = before.asc.usac ≡ own.asc.usac
+
+-- this tells which of the two it does
+abbrev pub Tells : Bool → Option MuxConfig → Option MuxConfig → Type 0
+Tells changed before own = (IsTrue changed → Changes before own) × (changed ≡ false → Keeps before own)
+
 -- the reader with the access units of an element still to be given
 abbrev pub with_element : MuxElement → Bool → Reading → Reading
 with_element e changed r = record r { in_force = then_in_force r.in_force e.config; pending = e.slots; opens = is_some e.config; changed = changed }
@@ -36,7 +46,7 @@ refused_element frame fault = Mux frame fault
 pub record TookElement (n : ℕ) (old new : Reading) : Type 0 where
   pub element : MuxElement
   pub is : IsElement old.in_force element (take n (drop 3 old.framer.held))
-  pub changed : IsTrue new.changed ↔ Changes old.in_force element.config
+  pub changed : Tells new.changed old.in_force element.config
   pub held : new ≡ with_element element new.changed (past n old)
 
 abbrev pub TakesElement : ℕ → Reading → Reading → Result (Unit {0}) StreamFault → Type 0

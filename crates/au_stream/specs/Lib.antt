@@ -1,5 +1,6 @@
 pub mod Elements
 pub mod Frames
+pub mod Segments
 pub mod Script
 pub mod Taking
 pub mod Reading

@@ -1,12 +1,12 @@
 -- What a reader of access units holds, and what it has given.
-use Rattle.std.specs.Prelude.{◌≡◌, ℕ, ◌≤◌, Bool, false, List, [], ◌∷◌, ◌++◌, length, Option, None, IsTrue, ◌↔◌}
+use Rattle.std.specs.Prelude.{◌≡◌, ℕ, ◌≤◌, Bool, false, List, [], ◌∷◌, ◌++◌, length, Option, None}
 use Rattle.std.specs.Option.{option_map}
 use Rattle.latm.specs.declared.mux_config.MuxConfig.{MuxConfig}
 use Rattle.latm.specs.declared.mux_element.MuxElement.{MuxElement}
 use Rattle.loas.specs.Framer.{Framer, pushed}
 use Rattle.au_stream.specs.Script.{most_bytes}
 use Rattle.au_stream.specs.Elements.{Carries, in_force_behind}
-use Rattle.au_stream.specs.Frames.{Frame, frames_from, frames_under, last_of, IsChange}
+use Rattle.au_stream.specs.Frames.{Frame, frames_from, frames_under, last_of, TellsChange}
 
 pub record Reading : Type 0 where
   -- the bytes that were got and belong to no element that was read
@@ -30,7 +30,7 @@ pending_frames r = frames_under r.in_force r.opens r.pending
 -- whether the next frame is a change is known
 abbrev pub KnowsChange : Option Frame → List Frame → Bool → Type 0
 KnowsChange before [] changed = Unit {0}
-KnowsChange before (f ∷ fs) changed = IsTrue changed ↔ IsChange before f
+KnowsChange before (f ∷ fs) changed = TellsChange changed before f
 
 -- These bytes were got in all, and these frames were given; no call was refused.
 pub record Holds (got : List ℕ) (given : List Frame) (r : Reading) : Type 0 where

@@ -8,7 +8,7 @@ ghost use Rattle.au_stream.specs.Frames.{Frame, last_of};
 ghost use Rattle.au_stream.specs.Script.{most_bytes};
 ghost use Rattle.au_stream.specs.Taking.{seen, IsReadFault, Caused};
 ghost use Rattle.au_stream.specs.Reading.{HasRead};
-ghost use Rattle.au_stream.specs.Giving.{Changes, with_element, TakesElement, Gave, Falls, IsSmall};
+ghost use Rattle.au_stream.specs.Giving.{Tells, with_element, TakesElement, Gave, Falls, IsSmall};
 ghost use Rattle.au_stream.specs.Events.{Reads};
 
 use crate::event::Event;
@@ -64,7 +64,7 @@ impl Model for AuReader {
 
 // Whether a StreamMuxConfig changes the UsacConfig in force.
 fn is_change(in_force: &Option<MuxConfig>, config: &MuxConfig) -> bool
-    ensures { IsTrue result ↔ Changes in_force.now (Some config.now) }
+    ensures { Tells result in_force.now (Some config.now) }
 {
     match in_force {
         None => true,
@@ -204,7 +204,7 @@ impl AuReader {
         requires room { self.old.count + length element.slots ≤ self.old.framer.passed }
         requires well_formed { FitsOption IsWellFormed element.config }
         ensures held { self.new ≡ with_element element self.new.changed self.old }
-        ensures changed { IsTrue self.new.changed ↔ Changes self.old.in_force element.config }
+        ensures changed { Tells self.new.changed self.old.in_force element.config }
     {
         let MuxElement { config, slots, .. } = element;
         let mut pending = slots.into_vec();

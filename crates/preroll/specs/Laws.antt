@@ -1,5 +1,5 @@
 -- What is true of every preroll, and of the rules.
-use Rattle.std.specs.Prelude.{◌≡◌, ℕ, ◌<◌, Bool, true, false, List, ◌++◌, replicate, Result, IfOk, IfErr}
+use Rattle.std.specs.Prelude.{◌≡◌, ℕ, ◌<◌, Bool, true, false, List, ◌++◌, replicate, Some, Result, IfOk, IfErr}
 use Rattle.layout.specs.Laws.{SpellsOnce, IsDecidedWhole, IsValueOf}
 use Rattle.layout.specs.Reading.{ReadsText}
 use Rattle.layout.specs.Text.{bits_of, pad}
@@ -10,7 +10,7 @@ use Rattle.preroll.specs.declared.fault.PreFault.{PreFault}
 use Rattle.preroll.specs.declared.fault.CarryFault.{CarryFault}
 use Rattle.preroll.specs.declared.preroll.PreRoll.{PreRoll}
 use Rattle.preroll.specs.Faults.{is_memory}
-use Rattle.preroll.specs.PreRoll.{preroll, preroll_text, IsWellFormed}
+use Rattle.preroll.specs.PreRoll.{preroll, preroll_text, fault_of, PreRollFaults, IsWellFormed}
 use Rattle.preroll.specs.Carried.{IsFirst, Carries}
 
 -- A payload is at most one preroll.
@@ -24,6 +24,11 @@ IsDecided = IsDecidedWhole preroll
 -- The preroll that is read off a payload is the preroll that it is.
 abbrev pub IsPreRollOf : Type 0
 IsPreRollOf = IsValueOf preroll
+
+-- The fault that a reader finds in a payload is its first one.
+pub record IsFaultOf : Type 0 where
+  pub is : (payload : List ℕ) (e : PreFault) → fault_of payload ≡ Some e → PreRollFaults e payload
+  pub found : (payload : List ℕ) (e : PreFault) → PreRollFaults e payload → fault_of payload ≡ Some e
 
 -- the preroll with so many zeros behind it
 abbrev pub with_zeros : PreRoll → ℕ → PreRoll

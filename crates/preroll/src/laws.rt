@@ -1,7 +1,7 @@
 //! What holds of every preroll, and of the rules.
 //!
 //! The functions run no code; their contracts are the theorems.
-ghost use Rattle.preroll.specs.Laws.{IsSpelledOnce, IsDecided, IsPreRollOf, IsReadBack, IsJudgedOnce};
+ghost use Rattle.preroll.specs.Laws.{IsSpelledOnce, IsDecided, IsPreRollOf, IsFaultOf, IsReadBack, IsJudgedOnce};
 
 /// A payload is at most one preroll.
 pub fn prerolls_are_spelled_once()
@@ -16,6 +16,11 @@ pub fn payloads_are_decided()
 /// The preroll that is read off a payload is the preroll that it is.
 pub fn payloads_are_their_prerolls()
     ensures { IsPreRollOf }
+{}
+
+/// The fault that a reader finds in a payload is its first one.
+pub fn payloads_have_their_faults()
+    ensures { IsFaultOf }
 {}
 
 /// What is written of a preroll is read as this preroll with fewer than 8 further zero bits in its tail.

@@ -11,6 +11,8 @@ mod fault;
 pub mod laws;
 mod preroll;
 mod reading;
+#[cfg(test)]
+mod tests;
 mod units;
 mod writing;
 

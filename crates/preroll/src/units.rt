@@ -74,11 +74,7 @@ pub fn first_is_independent(frame: &Frame, frames: &[Frame]) -> bool
 }
 
 /// The units of frames that fit the configuration.
-pub fn units_of(
-    alloc: Global,
-    config: &UsacConfig,
-    frames: &[Frame],
-) -> Result<Units, AllocError>
+pub fn units_of(alloc: Global, config: &UsacConfig, frames: &[Frame]) -> Result<Units, AllocError>
     requires { AllByRecursion (FitsConfig config.now) frames.now }
     ensures { IfOk result (λ units. units ≡ map (unit_of config.now) frames.now) }
 {

@@ -8,7 +8,9 @@ use Rattle.asc.specs.declared.fault.AscFault.{AscFault}
 use Rattle.asc.specs.declared.fault.AscFault.TheVariants as ascs
 use Rattle.latm.specs.declared.fault.MuxFault.{MuxFault}
 use Rattle.latm.specs.declared.fault.MuxFault.TheVariants as muxes
-use Rattle.tool_text.specs.declared.refusal.Place.TheVariants.{Byte, FrameBit}
+use Rattle.preroll.specs.declared.fault.CarryFault.{CarryFault}
+use Rattle.preroll.specs.declared.fault.CarryFault.TheVariants as carries
+use Rattle.tool_text.specs.declared.refusal.Place.TheVariants.{Byte, Frame as FrameAlone, FrameBit}
 use Rattle.tool_text.specs.declared.refusal.Reason.{Reason}
 use Rattle.tool_text.specs.declared.refusal.Reason.TheVariants as reasons
 use Rattle.tool_text.specs.declared.refusal.Refusal.{Refusal}
@@ -52,3 +54,18 @@ refusal_of_mux frame (muxes.OutOfProfile at field) = Some (at_bit frame at (reas
 refusal_of_mux frame (muxes.Short at) = Some (at_bit frame at reasons.MuxTooShort)
 refusal_of_mux frame (muxes.Asc fault) = refusal_of_asc frame fault
 refusal_of_mux frame (muxes.Memory e) = None
+
+abbrev pub at_frame : ℕ → Reason → Refusal
+at_frame frame reason = record { place = FrameAlone frame; reason = reason }
+
+-- the faults of the preroll of this frame (AudioPreRoll)
+abbrev pub refusal_of_carry : ℕ → CarryFault → Option Refusal
+refusal_of_carry frame carries.NotImmediate = Some (at_frame frame reasons.NotImmediate)
+refusal_of_carry frame carries.Split = Some (at_frame frame reasons.Split)
+refusal_of_carry frame (carries.BadPreroll at) = Some (at_frame frame (reasons.BadPreroll at))
+refusal_of_carry frame carries.BadConfig = Some (at_frame frame reasons.BadConfig)
+refusal_of_carry frame carries.ConfigDiffers = Some (at_frame frame reasons.ConfigDiffers)
+refusal_of_carry frame (carries.BadUnit k at) = Some (at_frame frame (reasons.BadUnit k at))
+refusal_of_carry frame (carries.Nested k) = Some (at_frame frame (reasons.Nested k))
+refusal_of_carry frame carries.FirstDependent = Some (at_frame frame reasons.FirstDependent)
+refusal_of_carry frame (carries.Memory e) = None

@@ -4,5 +4,7 @@ pub mod Elements
 pub mod Lines
 pub mod MuxLine
 pub mod FrameLine
+pub mod PreRollLines
+pub mod CheckLine
 pub mod Refusal
 pub mod Faults

@@ -41,6 +41,14 @@ reason_text reasons.TooManyChannels = codes "too many channels"
 reason_text reasons.TooManyElements = codes "too many elements"
 reason_text reasons.FrameTooShort = codes "frame too short"
 reason_text reasons.NotIndependent = codes "not independent"
+reason_text reasons.NotImmediate = codes "no preroll"
+reason_text reasons.Split = codes "preroll split"
+reason_text (reasons.BadPreroll bit) = codes "bad preroll at bit " & decimal bit
+reason_text reasons.BadConfig = codes "bad preroll configuration"
+reason_text reasons.ConfigDiffers = codes "preroll configuration differs"
+reason_text (reasons.BadUnit unit bit) = codes "bad carried unit " & decimal unit & codes " at bit " & decimal bit
+reason_text (reasons.Nested unit) = codes "nested preroll in unit " & decimal unit
+reason_text reasons.FirstDependent = codes "first unit not independent"
 reason_text reasons.FormNotBuilt = codes "form not built"
 
 -- the whole line, with its line feed

@@ -1,11 +1,12 @@
 // Which refusal a fault is. Want of memory is none.
 ghost use Rattle.std.specs.Prelude.{◌≡◌};
-ghost use Rattle.tool_text.specs.Faults.{at_bit, refusal_of_loas, refusal_of_cfg, refusal_of_asc, refusal_of_mux};
+ghost use Rattle.tool_text.specs.Faults.{at_bit, refusal_of_loas, refusal_of_cfg, refusal_of_asc, refusal_of_mux, at_frame, refusal_of_carry};
 
 use crate::refusal::{Place, Reason, Refusal};
 use asc::AscFault;
 use latm::MuxFault;
 use loas::LoasFault;
+use preroll::CarryFault;
 use usac_cfg::CfgFault;
 
 fn at_bit(frame: u64, bit: u64, reason: Reason) -> Refusal
@@ -77,5 +78,33 @@ pub fn mux_refusal(frame: u64, fault: &MuxFault) -> Option<Refusal>
         MuxFault::Short { at } => Some(at_bit(frame, *at, Reason::MuxTooShort)),
         MuxFault::Asc(fault) => asc_refusal(frame, fault),
         MuxFault::Memory(_) => None,
+    }
+}
+
+fn at_frame(frame: u64, reason: Reason) -> Refusal
+    ensures { result ≡ at_frame frame reason }
+{
+    Refusal {
+        place: Place::Frame(frame),
+        reason,
+    }
+}
+
+/// The refusal of the frame of this number, whose preroll has this fault; `None` exactly where the fault is want of memory.
+pub fn carry_refusal(frame: u64, fault: &CarryFault) -> Option<Refusal>
+    ensures { result ≡ refusal_of_carry frame fault.now }
+{
+    match fault {
+        CarryFault::NotImmediate => Some(at_frame(frame, Reason::NotImmediate)),
+        CarryFault::Split => Some(at_frame(frame, Reason::Split)),
+        CarryFault::BadPreroll { at } => Some(at_frame(frame, Reason::BadPreroll { bit: *at })),
+        CarryFault::BadConfig => Some(at_frame(frame, Reason::BadConfig)),
+        CarryFault::ConfigDiffers => Some(at_frame(frame, Reason::ConfigDiffers)),
+        CarryFault::BadUnit { k, at } => {
+            Some(at_frame(frame, Reason::BadUnit { unit: *k, bit: *at }))
+        }
+        CarryFault::Nested { k } => Some(at_frame(frame, Reason::Nested { unit: *k })),
+        CarryFault::FirstDependent => Some(at_frame(frame, Reason::FirstDependent)),
+        CarryFault::Memory(_) => None,
     }
 }

@@ -1,27 +1,31 @@
 //! The texts that tell a stream to a reader, each line with its line feed: StreamMuxConfig and AudioSpecificConfig (ISO/IEC
-//! 14496-3), the UsacConfig in it (ISO/IEC 23003-3) with its elements and extensions, UsacFrame with its leading parts, and
-//! refusals.
+//! 14496-3), the UsacConfig in it (ISO/IEC 23003-3) with its elements and extensions, UsacFrame with its leading parts,
+//! AudioPreRoll with its access units, what was counted of a stream, and refusals.
 //!
 //! In the lines of a configuration and of a frame numbers are decimal, truth values are 0 or 1, bytes are lower-case hex, and a
 //! dash stands for what is absent or empty. A refusal is a place and a reason; each fault of the crates below but want of memory
 //! is one.
 #![tactic(auto)]
 
+mod check_text;
 mod element_lines;
 mod faults;
 mod frame_text;
 mod lines;
 mod mux_line;
 mod parts;
+mod preroll_text;
 mod refusal;
 mod refusal_text;
 mod setting_lines;
 #[cfg(test)]
 mod tests;
 
-pub use faults::{loas_refusal, mux_refusal};
+pub use check_text::check_line;
+pub use faults::{carry_refusal, loas_refusal, mux_refusal};
 pub use frame_text::frame_line;
 pub use lines::configuration_lines;
 pub use mux_line::mux_lines;
+pub use preroll_text::{bad_preroll_line, preroll_lines};
 pub use refusal::{Place, Reason, Refusal};
 pub use refusal_text::refusal_line;

@@ -56,6 +56,22 @@ pub enum Reason {
     FrameTooShort,
     /// `usacIndependencyFlag` is 0 where it has to be 1.
     NotIndependent,
+    /// No preroll is declared, or it has no bytes.
+    NotImmediate,
+    /// The preroll does not begin or does not end in the frame.
+    Split,
+    /// The payload is no AudioPreRoll: bits are missing at this bit of it.
+    BadPreroll { bit: u64 },
+    /// The configuration in the preroll is none.
+    BadConfig,
+    /// The configuration in the preroll is another one than the frame's.
+    ConfigDiffers,
+    /// The access unit of that number in the preroll is no frame: bits are missing at this bit of it.
+    BadUnit { unit: u32, bit: u64 },
+    /// The access unit of that number in the preroll has a preroll itself.
+    Nested { unit: u32 },
+    /// The first access unit of the preroll is not independent, or there is none and the frame is not independent.
+    FirstDependent,
     /// The program does not take this form of frame yet.
     FormNotBuilt,
 }

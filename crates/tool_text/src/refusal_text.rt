@@ -56,6 +56,16 @@ fn reason_text(alloc: Global, reason: Reason) -> Result<String, AllocError>
         Reason::TooManyElements => format!(in alloc; "too many elements"),
         Reason::FrameTooShort => format!(in alloc; "frame too short"),
         Reason::NotIndependent => format!(in alloc; "not independent"),
+        Reason::NotImmediate => format!(in alloc; "no preroll"),
+        Reason::Split => format!(in alloc; "preroll split"),
+        Reason::BadPreroll { bit } => format!(in alloc; "bad preroll at bit {bit}"),
+        Reason::BadConfig => format!(in alloc; "bad preroll configuration"),
+        Reason::ConfigDiffers => format!(in alloc; "preroll configuration differs"),
+        Reason::BadUnit { unit, bit } => {
+            format!(in alloc; "bad carried unit {unit} at bit {bit}")
+        }
+        Reason::Nested { unit } => format!(in alloc; "nested preroll in unit {unit}"),
+        Reason::FirstDependent => format!(in alloc; "first unit not independent"),
         Reason::FormNotBuilt => format!(in alloc; "form not built"),
     }
 }

@@ -3,13 +3,14 @@ ghost use Rattle.usac_cfg.specs.UsacConfig.{IsWellFormed as IsUsacWellFormed};
 ghost use Rattle.asc.specs.Asc.{IsWellFormed};
 
 use crate::{
-    Place, Reason, Refusal, configuration_lines, frame_line, loas_refusal, mux_lines, mux_refusal,
-    refusal_line,
+    Place, Reason, Refusal, bad_preroll_line, carry_refusal, check_line, configuration_lines,
+    frame_line, loas_refusal, mux_lines, mux_refusal, preroll_lines, refusal_line,
 };
 use asc::{Asc, AscFault};
 use bit_core::{BitReader, Bits, Items, Octets};
 use latm::{MuxConfig, MuxFault, MuxField};
 use loas::LoasFault;
+use preroll::{CarryFault, read_preroll};
 use std::alloc::{AllocError, Global};
 use std::process::Abort;
 use std::test::Fail;
@@ -356,6 +357,42 @@ const REFUSALS: &[(Place, Reason, &str)] = &[
     ),
     (
         FRAME,
+        Reason::NotImmediate,
+        "refused: frame 7: no preroll\n",
+    ),
+    (FRAME, Reason::Split, "refused: frame 7: preroll split\n"),
+    (
+        FRAME,
+        Reason::BadPreroll { bit: 88 },
+        "refused: frame 7: bad preroll at bit 88\n",
+    ),
+    (
+        FRAME,
+        Reason::BadConfig,
+        "refused: frame 7: bad preroll configuration\n",
+    ),
+    (
+        FRAME,
+        Reason::ConfigDiffers,
+        "refused: frame 7: preroll configuration differs\n",
+    ),
+    (
+        FRAME,
+        Reason::BadUnit { unit: 17, bit: 3 },
+        "refused: frame 7: bad carried unit 17 at bit 3\n",
+    ),
+    (
+        FRAME,
+        Reason::Nested { unit: 17 },
+        "refused: frame 7: nested preroll in unit 17\n",
+    ),
+    (
+        FRAME,
+        Reason::FirstDependent,
+        "refused: frame 7: first unit not independent\n",
+    ),
+    (
+        FRAME,
         Reason::FormNotBuilt,
         "refused: frame 7: form not built\n",
     ),
@@ -389,4 +426,30 @@ fn faults_are_refusals(rt: HostRuntime) {
         reason: Reason::ChannelReserved,
     };
     assert_eq!(rt; mux_refusal(12, &reserved), Some(wanted));
+    let bad = CarryFault::BadUnit { k: 17, at: 3 };
+    let wanted = Refusal {
+        place: FRAME,
+        reason: Reason::BadUnit { unit: 17, bit: 3 },
+    };
+    assert_eq!(rt; carry_refusal(7, &bad), Some(wanted));
+}
+
+#[test]
+fn prerolls_have_their_lines(rt: HostRuntime) -> Result<(), Fail> {
+    let alloc = rt.alloc();
+    let payload = b"\x06\x00\x01\x80\x00\x00\xB0";
+    let preroll = read_preroll(alloc, payload)?;
+    let lines = preroll_lines(alloc, &preroll)?;
+    compare(
+        &rt,
+        lines.as_slice(),
+        "preroll config=0 fade=0 reserved=1 units=2 tail=8\n",
+        &["unit 0 80\n", "unit 1 -\n"],
+    );
+    let bad = bad_preroll_line(alloc, 88)?;
+    assert_eq!(rt; bad.as_slice(), b"preroll bad bit=88\n".as_slice());
+    let checked = check_line(alloc, 8, 2, 3, 1)?;
+    let wanted = b"frames 8, configurations 2, independent 3, immediate 1\n";
+    assert_eq!(rt; checked.as_slice(), wanted.as_slice());
+    Ok(())
 }

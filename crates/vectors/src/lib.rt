@@ -5,6 +5,7 @@ mod bytes;
 mod configs;
 mod frames;
 mod numbers;
+mod prerolls;
 mod streams;
 
 pub use bytes::bytes_of;
@@ -18,6 +19,9 @@ pub use frames::{
 };
 pub use numbers::{
     ESCAPED_2_4_0, ESCAPED_4_8_16, ESCAPED_8_16_0, LATM_VALUE_255, NumberRow, SLOT_LENGTHS,
+};
+pub use prerolls::{
+    CARRIED, CarriedRow, PREROLLS, PreRollRow, SHORT_PREROLLS, UNCARRIED, UncarriedRow,
 };
 pub use streams::{EIGHT_FRAMES, PLAIN};
 

@@ -1,5 +1,5 @@
 -- What a command on a source did is what the bytes of the file say.
-use Rattle.std.proofs.Common.{◌≡◌, ℕ, ◌+◌, ◌<◌, false, eqb, List, [], ◌∷◌, ◌++◌, Option, Some, None, refl, sym, ap, subst, ◌∙◌, arith}
+use Rattle.std.proofs.Common.{◌≡◌, ℕ, ◌+◌, ◌<◌, false, eqb, List, [], ◌∷◌, ◌++◌, Option, Some, None, refl, sym, ap, subst, ◌∙◌, arith, inl}
 use Rattle.std.specs.declared.alloc.AllocError.{AllocError}
 use Rattle.std.proofs.lemmas.Bool.{lt-ltb, le-ltb, ne_eqb}
 use Rattle.outside.specs.Other.{all_but}
@@ -53,10 +53,10 @@ taken_alone c before left t outcome p = (
 )
 
 -- What is so of each frame of the file is so of the one that is handled.
-pub frame_of_file : (j : Job) (serves : Frame → Type 0) (old mid : Meaning) (text : List ℕ) (left1 left2 before w1 : Option (List ℕ)) (r1 r2 : Reading) (f1 f2 : ℕ) (event : Event) (mux : MuxConfig)
-    → (s : GoesOn j old mid (Some text) left1 before w1 r1) → (p : Reads s.got s.given r1 r2 (record { left = left1; faults = f1 }) (record { left = left2; faults = f2 }) (Ok (Some event)))
+pub frame_of_file : (j : Job) (H : List Frame → Type 0) (serves : Frame → Type 0) (old mid : Meaning) (text : List ℕ) (left1 left2 before w1 : Option (List ℕ)) (r1 r2 : Reading) (f1 f2 : ℕ) (event : Event) (mux : MuxConfig)
+    → (s : GoesOn j H old mid (Some text) left1 before w1 r1) → (p : Reads s.got s.given r1 r2 (record { left = left1; faults = f1 }) (record { left = left2; faults = f2 }) (Ok (Some event)))
     → (n : Next (s.got ++ p.more) s.given r2 event mux) → OfFile j.command serves text → Takes j.command s.given n.frame → serves n.frame
-frame_of_file j serves old mid text left1 left2 before w1 r1 r2 f1 f2 event mux s p n each takes =
+frame_of_file j H serves old mid text left1 left2 before w1 r1 r2 f1 f2 event mux s p n each takes =
     let from : Some text ≡ prepend_known (s.got ++ p.more) left2 = s.from ∙ ap (prepend_known s.got) p.from ∙ prepend-prepend s.got p.more left2 in
     let k = told text (s.got ++ p.more) left2 from in
     let a = read_frames (s.got ++ p.more) k.0 (s.given ++ n.frame ∷ []) r2 n.read in
@@ -98,7 +98,7 @@ not_begun_memory j gives text a b left written fed error e =
       taken = [];
       from = sym (remains_file a b left (Some text) e) ∙ prepend-none (remains_of a b left (Some text));
       within = omega arith;
-      ends = ([], record { later = f.0; of_file = f.1; takes = tt }, record { written = (0, append-none written); fed = omega arith });
+      ends = ([], inl (record { later = f.0; of_file = f.1; takes = tt }, record { written = (0, append-none written); fed = omega arith }));
     }
 
 -- what is left of the other inputs

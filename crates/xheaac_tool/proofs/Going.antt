@@ -4,16 +4,20 @@ use Rattle.std.specs.Option.{option_map}
 use Rattle.std.proofs.lemmas.List.{length-append, append-nil, take_all}
 use Rattle.std.proofs.Math.Seq.{take-append-add}
 use Rattle.std.specs.Io.KnownBytes.{prepend_known, append_known}
+use Rattle.causes.specs.Counts.{HasCause}
 use Rattle.core_iface.specs.Answering.{Running, Meaning}
+use Rattle.outside.specs.Answers.{has_failed, IsFailed}
 use Rattle.latm.specs.declared.mux_config.MuxConfig.{MuxConfig}
 use Rattle.loas.specs.declared.fault.LoasFault.TheVariants as loas
+use Rattle.outside.specs.declared.fault.DeviceFault.{DeviceFault}
+use Rattle.outside.specs.declared.fault.DeviceFault.TheVariants as devices
 use Rattle.tool_text.specs.declared.refusal.Refusal.{Refusal}
 use Rattle.tool_text.specs.Refusal.{refusal_text}
 use Rattle.au_stream.specs.declared.event.Event.{Event}
 use Rattle.au_stream.specs.declared.fault.StreamFault.{StreamFault}
 use Rattle.au_stream.specs.declared.fault.StreamFault.TheVariants as streams
 use Rattle.au_stream.specs.Frames.{Frame, last_of}
-use Rattle.au_stream.specs.Script.{Mark, SyncLost, BadElement, Truncated, HasFrames, IsScript}
+use Rattle.au_stream.specs.Script.{Mark, End, SyncLost, BadElement, Truncated, HasFrames, IsScript}
 use Rattle.au_stream.specs.Reading.{Reading, HasRead}
 use Rattle.au_stream.specs.Taking.{Seen}
 use Rattle.au_stream.specs.Events.{IsEvent, Answers, Reads}
@@ -26,9 +30,11 @@ use Rattle.xheaac_tool.specs.declared.outcome.Outcome.{Outcome}
 use Rattle.xheaac_tool.specs.declared.outcome.Outcome.TheVariants as is
 use Rattle.xheaac_tool.specs.Commands.{Command, Takes, TakesAll, fed_for}
 use Rattle.xheaac_tool.specs.Jobs.{Job, GivesOutput, step_through, bytes_through}
-use Rattle.xheaac_tool.specs.OneFrame.{Handles, DidFrame, DidPart}
-use Rattle.xheaac_tool.specs.Ending.{Traces, WroteAll, WroteFront, TakesFirst, Ends, refusal_of_mark}
-use Rattle.xheaac_tool.specs.Doing.{GoesOn, DoesSource, IsRefusedBy, Becomes, BecomesOf}
+use Rattle.xheaac_tool.specs.OneFrame.{Handles, DidFrame, DidPart, Closed}
+use Rattle.xheaac_tool.specs.Handing.{WrotePart}
+use Rattle.xheaac_tool.specs.Ending.{Traces, WroteAll, WroteFront, WroteClosed, WroteClosedFront, TakesFirst, Passes, Ends, refusal_of_mark}
+use Rattle.xheaac_tool.specs.Causes.{Counts, Caused}
+use Rattle.xheaac_tool.specs.Doing.{GoesOn, DoesSource, IsRefusedBy, Becomes, BecomesOf, outcome_of_close}
 use Rattle.xheaac_tool.proofs.Handing.{append-append}
 
 pub prepend-none : (known : Option (List ℕ)) → known ≡ prepend_known [] known
@@ -85,13 +91,14 @@ step_push j before ready (g ∷ fs) f =
     let next = j.step before ready g in
     step_push j then next fs f ∙ ap (λ (x : List Frame). j.step x (step_through j then next fs) f) (append_assoc before (g ∷ []) fs)
 
-pub starts : (j : Job) (old : Meaning) (left before : Option (List ℕ)) (reader : Reading) → HasRead [] [] reader → GoesOn j old old left left before before reader
-starts j old left before reader read = record {
+pub starts : (j : Job) (H : List Frame → Type 0) (old : Meaning) (left before : Option (List ℕ)) (reader : Reading) → HasRead [] [] reader → H [] → GoesOn j H old old left left before before reader
+starts j H old left before reader read none = record {
   given = [];
   got = [];
   from = prepend-none left;
   read = read;
   takes = tt;
+  holds = none;
   ready = refl;
   needed = λ h. absurd (omega arith);
   fed = fed_none j.command.feeds old.fed;
@@ -121,13 +128,13 @@ no_frame got given old new before now event p last =
     cc
 
 -- how many units were fed
-pub given_fed : (j : Job) (old now : Meaning) (left0 left1 before w1 : Option (List ℕ)) (r : Reading) → GoesOn j old now left0 left1 before w1 r → now.fed ≤ old.fed + r.count
-given_fed j old now left0 left1 before w1 r s = omega (arith, s.fed, fed_few j.command.feeds (length s.given), s.read.holds.counted)
+pub given_fed : (j : Job) (H : List Frame → Type 0) (old now : Meaning) (left0 left1 before w1 : Option (List ℕ)) (r : Reading) → GoesOn j H old now left0 left1 before w1 r → now.fed ≤ old.fed + r.count
+given_fed j H old now left0 left1 before w1 r s = omega (arith, s.fed, fed_few j.command.feeds (length s.given), s.read.holds.counted)
 
 -- the core is ready for a frame that is not the first one
-pub needs_now : (j : Job) (old mid : Meaning) (left0 left1 left2 before w1 : Option (List ℕ)) (r1 r2 : Reading) (f1 f2 : ℕ) (event : Event)
-    → (s : GoesOn j old mid left0 left1 before w1 r1) → Reads s.got s.given r1 r2 (record { left = left1; faults = f1 }) (record { left = left2; faults = f2 }) (Ok (Some event)) → 0 < event.frame → j.Needs mid.ready
-needs_now j old mid left0 left1 left2 before w1 r1 r2 f1 f2 event s p some = let k = p.leaves in s.needed (omega (arith, some, k.1.number))
+pub needs_now : (j : Job) (H : List Frame → Type 0) (old mid : Meaning) (left0 left1 left2 before w1 : Option (List ℕ)) (r1 r2 : Reading) (f1 f2 : ℕ) (event : Event)
+    → (s : GoesOn j H old mid left0 left1 before w1 r1) → Reads s.got s.given r1 r2 (record { left = left1; faults = f1 }) (record { left = left2; faults = f2 }) (Ok (Some event)) → 0 < event.frame → j.Needs mid.ready
+needs_now j H old mid left0 left1 left2 before w1 r1 r2 f1 f2 event s p some = let k = p.leaves in s.needed (omega (arith, some, k.1.number))
 
 -- the bytes of the frames before a frame, and bytes of its own
 output_front : (j : Job) (ready : Option Running) (given : List Frame) (before w1 w2 : Option (List ℕ)) (bytes : List ℕ) → w1 ≡ append_known before (bytes_through j [] ready given)
@@ -140,15 +147,16 @@ output_more : (j : Job) (ready mid_ready : Option Running) (fs : List Frame) (f 
 output_more j ready mid_ready fs f e = ap (λ (r : Option Running). bytes_through j [] ready fs ++ j.bytes fs r f) e ∙ sym (bytes_push j [] ready fs f)
 
 -- one frame more was handled
-pub goes_on : (j : Job) (old mid now : Meaning) (left0 left1 left2 before w1 w2 : Option (List ℕ)) (r1 r2 : Reading) (f1 f2 : ℕ) (event : Event) (mux : MuxConfig)
-    → (s : GoesOn j old mid left0 left1 before w1 r1) → (p : Reads s.got s.given r1 r2 (record { left = left1; faults = f1 }) (record { left = left2; faults = f2 }) (Ok (Some event)))
-    → (n : Next (s.got ++ p.more) s.given r2 event mux) → DidFrame j s.given n.frame mid now w1 w2 → GoesOn j old now left0 left2 before w2 r2
-goes_on j old mid now left0 left1 left2 before w1 w2 r1 r2 f1 f2 event mux s p n d = record {
+pub goes_on : (j : Job) (H K : List Frame → Type 0) (old mid now : Meaning) (left0 left1 left2 before w1 w2 : Option (List ℕ)) (r1 r2 : Reading) (f1 f2 : ℕ) (event : Event) (mux : MuxConfig)
+    → (s : GoesOn j H old mid left0 left1 before w1 r1) → (p : Reads s.got s.given r1 r2 (record { left = left1; faults = f1 }) (record { left = left2; faults = f2 }) (Ok (Some event)))
+    → (n : Next (s.got ++ p.more) s.given r2 event mux) → DidFrame j s.given n.frame mid now w1 w2 → K (s.given ++ n.frame ∷ []) → GoesOn j K old now left0 left2 before w2 r2
+goes_on j H K old mid now left0 left1 left2 before w1 w2 r1 r2 f1 f2 event mux s p n d held = record {
   given = s.given ++ n.frame ∷ [];
   got = s.got ++ p.more;
   from = s.from ∙ ap (prepend_known s.got) p.from ∙ prepend-prepend s.got p.more left2;
   read = n.read;
   takes = takes_push j.command [] s.given n.frame s.takes d.takes;
+  holds = held;
   ready = d.ready ∙ ap (λ (r : Option Running). j.step s.given r n.frame) s.ready ∙ sym (step_push j [] old.ready s.given n.frame);
   needed = λ h. d.needed;
   fed = omega (arith, d.fed, s.fed, fed_more j.command.feeds (length s.given), ap (λ (k : ℕ). fed_for j.command.feeds k) (length-append s.given (n.frame ∷ [])));
@@ -162,8 +170,8 @@ abbrev pub traces : Option (List ℕ) → Option (List ℕ) → ℕ → ℕ → 
 traces before after fed_before fed_after = record { written_before = before; written_after = after; fed_before = fed_before; fed_after = fed_after }
 
 -- what was written between two frames
-pub wrote_all : (j : Job) (gives : GivesOutput j) (old mid : Meaning) (left0 left1 before w1 : Option (List ℕ)) (r : Reading) (s : GoesOn j old mid left0 left1 before w1 r) → WroteAll j.command s.given (traces before w1 old.fed mid.fed)
-wrote_all j gives old mid left0 left1 before w1 r s = record { written = s.output ∙ ap (λ (x : List ℕ). append_known before x) (gives old.ready s.given s.takes); fed = s.fed }
+pub wrote_all : (j : Job) (H : List Frame → Type 0) (gives : GivesOutput j) (old mid : Meaning) (left0 left1 before w1 : Option (List ℕ)) (r : Reading) (s : GoesOn j H old mid left0 left1 before w1 r) → WroteAll j.command s.given (traces before w1 old.fed mid.fed)
+wrote_all j H gives old mid left0 left1 before w1 r s = record { written = s.output ∙ ap (λ (x : List ℕ). append_known before x) (gives old.ready s.given s.takes); fed = s.fed }
 
 pub all_front : (c : Command) (fs : List Frame) (t : Traces) → WroteAll c fs t → WroteFront c fs t
 all_front c fs t w =
@@ -180,9 +188,9 @@ none_front c fs before w1 w2 fed0 fed1 fed2 w same fed =
     record { written = (length xs, same ∙ w.written ∙ ap (λ (x : List ℕ). append_known before x) (sym (take_all (length xs) xs (omega arith)))); fed = omega (arith, fed, w.fed, fed_more c.feeds (length fs)) }
 
 -- a front of the bytes of one more frame
-part_front : (j : Job) (gives : GivesOutput j) (old mid now : Meaning) (left0 left1 before w1 w2 : Option (List ℕ)) (r : Reading) (s : GoesOn j old mid left0 left1 before w1 r) (f : Frame) → DidPart j s.given f mid now w1 w2
+part_front : (j : Job) (H : List Frame → Type 0) (gives : GivesOutput j) (old mid now : Meaning) (left0 left1 before w1 w2 : Option (List ℕ)) (r : Reading) (s : GoesOn j H old mid left0 left1 before w1 r) (f : Frame) → DidPart j s.given f mid now w1 w2
     → WroteFront j.command (s.given ++ f ∷ []) (traces before w2 old.fed now.fed)
-part_front j gives old mid now left0 left1 before w1 w2 r s f d =
+part_front j H gives old mid now left0 left1 before w1 w2 r s f d =
     let xs = bytes_through j [] old.ready s.given in
     let ys = j.bytes s.given mid.ready f in
     let fs = s.given ++ f ∷ [] in
@@ -206,12 +214,42 @@ stop c got given r1 r2 left0 left1 left2 f1 f2 answer t outcome from p ends = re
   ends = ends;
 }
 
-pub done : (j : Job) (gives : GivesOutput j) (old mid : Meaning) (left0 left1 left2 before w1 : Option (List ℕ)) (r1 r2 : Reading) (f1 f2 : ℕ)
-    → (s : GoesOn j old mid left0 left1 before w1 r1) → Reads s.got s.given r1 r2 (record { left = left1; faults = f1 }) (record { left = left2; faults = f2 }) (Ok None)
-    → DoesSource j.command left0 left2 (traces before w1 old.fed mid.fed) is.Done
-done j gives old mid left0 left1 left2 before w1 r1 r2 f1 f2 s p =
-    stop j.command s.got s.given r1 r2 left0 left1 left2 f1 f2 (Ok None) (traces before w1 old.fed mid.fed) is.Done s.from p
-    (λ rest e. (s.given, record { script = p.answers rest e; takes = s.takes }, wrote_all j gives old mid left0 left1 before w1 r1 s))
+-- the end of the stream, and what is written there
+closed_all : (c : Command) (fs : List Frame) (before w1 w2 : Option (List ℕ)) (fed0 fed1 : ℕ) (closing : List ℕ) → WroteAll c fs (traces before w1 fed0 fed1) → c.Closes fs closing → w2 ≡ append_known w1 closing → WroteClosed c fs (traces before w2 fed0 fed1)
+closed_all c fs before w1 w2 fed0 fed1 closing w closes more = record {
+  closing = closing;
+  closes = closes;
+  written = more ∙ ap (λ (x : Option (List ℕ)). append_known x closing) w.written ∙ append-append before (c.output fs) closing;
+  fed = w.fed;
+}
+
+closed_part : (c : Command) (fs : List Frame) (before w1 w2 : Option (List ℕ)) (fed0 fed1 : ℕ) (closing : List ℕ) → WroteAll c fs (traces before w1 fed0 fed1) → c.Closes fs closing → WrotePart w1 w2 closing → WroteClosedFront c fs (traces before w2 fed0 fed1)
+closed_part c fs before w1 w2 fed0 fed1 closing w closes part =
+    let xs = c.output fs in
+    record {
+      closing = closing;
+      closes = closes;
+      written = (
+        length xs + part.0,
+        part.1 ∙ ap (λ (x : Option (List ℕ)). append_known x (take part.0 closing)) w.written ∙ append-append before xs (take part.0 closing) ∙ ap (λ (x : List ℕ). append_known before x) (sym (take-append-add xs closing part.0)),
+      );
+      fed = w.fed;
+    }
+
+pub done : (j : Job) (H : List Frame → Type 0) (gives : GivesOutput j) (old mid : Meaning) (left0 left1 left2 before w1 w2 : Option (List ℕ)) (r1 r2 : Reading) (f1 f2 : ℕ) (answer : Result (Unit {0}) DeviceFault)
+    → (s : GoesOn j H old mid left0 left1 before w1 r1) → Reads s.got s.given r1 r2 (record { left = left1; faults = f1 }) (record { left = left2; faults = f2 }) (Ok None) → Closed (j.command.Closes s.given) w1 w2 answer
+    → DoesSource j.command left0 left2 (traces before w2 old.fed mid.fed) (outcome_of_close answer)
+done j H gives old mid left0 left1 left2 before w1 w2 r1 r2 f1 f2 answer s p closed =
+    stop j.command s.got s.given r1 r2 left0 left1 left2 f1 f2 (Ok None) (traces before w2 old.fed mid.fed) (outcome_of_close answer) s.from p
+    (λ rest e. by_answer ((s.got ++ p.more) ++ rest) (s.got ++ p.more) answer (record { script = p.answers rest e; takes = s.takes }) closed)
+  where
+    w : WroteAll j.command s.given (traces before w1 old.fed mid.fed)
+    w = wrote_all j H gives old mid left0 left1 before w1 r1 s
+
+    by_answer : (text taken : List ℕ) (a : Result (Unit {0}) DeviceFault) → Passes j.command text s.given End → Closed (j.command.Closes s.given) w1 w2 a → Ends j.command text taken (traces before w2 old.fed mid.fed) (outcome_of_close a)
+    by_answer text taken (Ok u) passes c = (s.given, passes, closed_all j.command s.given before w1 w2 old.fed mid.fed c.closing w c.closes c.ok)
+    by_answer text taken (Err devices.Failed) passes c = (s.given, inr (passes, closed_part j.command s.given before w1 w2 old.fed mid.fed c.closing w c.closes c.err))
+    by_answer text taken (Err (devices.Memory x)) passes c = (s.given, inr (passes, closed_part j.command s.given before w1 w2 old.fed mid.fed c.closing w c.closes c.err))
 
 -- all frames are taken, and the mark is a refusal
 ends_mark : (c : Command) (text taken : List ℕ) (fs : List Frame) (mark : Mark) (r : Option Refusal) (t : Traces) (outcome : Outcome) → IsRefusedBy r outcome → refusal_of_mark mark ≡ r → IsScript text fs mark → TakesAll c [] fs → WroteAll c fs t → Ends c text taken t outcome
@@ -220,20 +258,20 @@ ends_mark c text taken fs mark r t (is.Refused words) b m s h w = (fs, b.0, inr 
 ends_mark c text taken fs mark r t is.ReadFault b m s h w = absurd b
 ends_mark c text taken fs mark r t is.WriteFault b m s h w = absurd b
 ends_mark c text taken fs mark r t is.CoreFault b m s h w = absurd b
-ends_mark c text taken fs mark r t (is.Memory e) b m s h w = (fs, record { later = []; of_file = subst (λ (x : List Frame). HasFrames text x) (sym (append-nil fs)) (frames_of_script text fs mark s); takes = h }, all_front c fs t w)
+ends_mark c text taken fs mark r t (is.Memory e) b m s h w = (fs, inl (record { later = []; of_file = subst (λ (x : List Frame). HasFrames text x) (sym (append-nil fs)) (frames_of_script text fs mark s); takes = h }, all_front c fs t w))
 ends_mark c text taken fs mark r t is.TooLarge b m s h w = absurd b
 
-pub ended : (j : Job) (gives : GivesOutput j) (old mid : Meaning) (left0 left1 left2 before w1 : Option (List ℕ)) (r1 r2 : Reading) (f1 f2 : ℕ) (fault : StreamFault) (outcome : Outcome)
-    → (s : GoesOn j old mid left0 left1 before w1 r1) → Reads s.got s.given r1 r2 (record { left = left1; faults = f1 }) (record { left = left2; faults = f2 }) (Err fault) → Becomes fault outcome
+pub ended : (j : Job) (H : List Frame → Type 0) (gives : GivesOutput j) (old mid : Meaning) (left0 left1 left2 before w1 : Option (List ℕ)) (r1 r2 : Reading) (f1 f2 : ℕ) (fault : StreamFault) (outcome : Outcome)
+    → (s : GoesOn j H old mid left0 left1 before w1 r1) → Reads s.got s.given r1 r2 (record { left = left1; faults = f1 }) (record { left = left2; faults = f2 }) (Err fault) → Becomes fault outcome
     → DoesSource j.command left0 left2 (traces before w1 old.fed mid.fed) outcome
-ended j gives old mid left0 left1 left2 before w1 r1 r2 f1 f2 fault outcome s p b =
+ended j H gives old mid left0 left1 left2 before w1 r1 r2 f1 f2 fault outcome s p b =
     stop j.command s.got s.given r1 r2 left0 left1 left2 f1 f2 (Err fault) (traces before w1 old.fed mid.fed) outcome s.from p (λ rest e. by_fault fault rest (p.answers rest e) b)
   where
     t : Traces
     t = traces before w1 old.fed mid.fed
 
     w : WroteAll j.command s.given (traces before w1 old.fed mid.fed)
-    w = wrote_all j gives old mid left0 left1 before w1 r1 s
+    w = wrote_all j H gives old mid left0 left1 before w1 r1 s
 
     by_fault : (f : StreamFault) (rest : List ℕ) → Answers ((s.got ++ p.more) ++ rest) (s.got ++ p.more) s.given (Err f) → Becomes f outcome → Ends j.command ((s.got ++ p.more) ++ rest) (s.got ++ p.more) (traces before w1 old.fed mid.fed) outcome
     by_fault streams.ReadFault rest a b =
@@ -245,7 +283,7 @@ ended j gives old mid left0 left1 left2 before w1 r1 r2 f1 f2 fault outcome s p 
     by_fault (streams.Loas (loas.Memory x)) rest a b = absurd a
     by_fault (streams.Mux frame x) rest a b = ends_mark j.command ((s.got ++ p.more) ++ rest) (s.got ++ p.more) s.given (BadElement frame x) _ (traces before w1 old.fed mid.fed) outcome b refl a s.takes w
     by_fault (streams.Memory x) rest a b =
-        subst (λ (o : Outcome). Ends j.command ((s.got ++ p.more) ++ rest) (s.got ++ p.more) (traces before w1 old.fed mid.fed) o) (sym b) (s.given, record { later = a.0; of_file = a.1; takes = s.takes }, all_front j.command s.given (traces before w1 old.fed mid.fed) w)
+        subst (λ (o : Outcome). Ends j.command ((s.got ++ p.more) ++ rest) (s.got ++ p.more) (traces before w1 old.fed mid.fed) o) (sym b) (s.given, inl (record { later = a.0; of_file = a.1; takes = s.takes }, all_front j.command s.given (traces before w1 old.fed mid.fed) w))
 
 -- the frames up to one more are the first of the source
 first_more : (c : Command) (got rest : List ℕ) (given : List Frame) (f : Frame) (r : Reading) → HasRead got (given ++ f ∷ []) r → TakesAll c [] given → Takes c given f → TakesFirst c (got ++ rest) (given ++ f ∷ [])
@@ -267,18 +305,18 @@ ends_frame c text taken fs f later r t (is.Refused words) b s h k w =
 ends_frame c text taken fs f later r t is.ReadFault b s h k w = absurd b
 ends_frame c text taken fs f later r t is.WriteFault b s h k w = absurd b
 ends_frame c text taken fs f later r t is.CoreFault b s h k w = absurd b
-ends_frame c text taken fs f later r t (is.Memory e) b s h k w = (fs, record { later = f ∷ later; of_file = s; takes = h }, all_front c fs t w)
+ends_frame c text taken fs f later r t (is.Memory e) b s h k w = (fs, inl (record { later = f ∷ later; of_file = s; takes = h }, all_front c fs t w))
 ends_frame c text taken fs f later r t is.TooLarge b s h k w = absurd b
 
-pub stopped : (j : Job) (gives : GivesOutput j) (old mid now : Meaning) (left0 left1 left2 before w1 w2 : Option (List ℕ)) (r1 r2 : Reading) (f1 f2 : ℕ) (event : Event) (mux : MuxConfig) (end : FrameEnd) (outcome : Outcome)
-    → (s : GoesOn j old mid left0 left1 before w1 r1) → (p : Reads s.got s.given r1 r2 (record { left = left1; faults = f1 }) (record { left = left2; faults = f2 }) (Ok (Some event)))
+pub stopped : (j : Job) (H : List Frame → Type 0) (gives : GivesOutput j) (old mid now : Meaning) (left0 left1 left2 before w1 w2 : Option (List ℕ)) (r1 r2 : Reading) (f1 f2 : ℕ) (event : Event) (mux : MuxConfig) (end : FrameEnd) (outcome : Outcome)
+    → (s : GoesOn j H old mid left0 left1 before w1 r1) → (p : Reads s.got s.given r1 r2 (record { left = left1; faults = f1 }) (record { left = left2; faults = f2 }) (Ok (Some event)))
     → (n : Next (s.got ++ p.more) s.given r2 event mux) → Handles j s.given n.frame mid now w1 w2 (Err end) → BecomesOf end outcome
     → DoesSource j.command left0 left2 (traces before w2 old.fed now.fed) outcome
-stopped j gives old mid now left0 left1 left2 before w1 w2 r1 r2 f1 f2 event mux end outcome s p n d b =
+stopped j H gives old mid now left0 left1 left2 before w1 w2 r1 r2 f1 f2 event mux end outcome s p n d b =
     stop j.command s.got s.given r1 r2 left0 left1 left2 f1 f2 (Ok (Some event)) (traces before w2 old.fed now.fed) outcome s.from p (λ rest e. by_end end rest d b)
   where
     w : WroteAll j.command s.given (traces before w1 old.fed mid.fed)
-    w = wrote_all j gives old mid left0 left1 before w1 r1 s
+    w = wrote_all j H gives old mid left0 left1 before w1 r1 s
 
     by_end : (x : FrameEnd) (rest : List ℕ) → Handles j s.given n.frame mid now w1 w2 (Err x) → BecomesOf x outcome → Ends j.command ((s.got ++ p.more) ++ rest) (s.got ++ p.more) (traces before w2 old.fed now.fed) outcome
     by_end (frames.Refused refusal) rest d b =
@@ -287,15 +325,15 @@ stopped j gives old mid now left0 left1 left2 before w1 w2 r1 r2 f1 f2 event mux
         ends_frame j.command ((s.got ++ p.more) ++ rest) (s.got ++ p.more) s.given n.frame a.0 refusal (traces before w2 old.fed now.fed) outcome b of_file s.takes d.0 (same_all j.command s.given before w1 w2 old.fed mid.fed now.fed w d.2 d.1)
     by_end frames.WriteFault rest d b =
         subst (λ (o : Outcome). Ends j.command ((s.got ++ p.more) ++ rest) (s.got ++ p.more) (traces before w2 old.fed now.fed) o) (sym b)
-        (s.given ++ n.frame ∷ [], first_more j.command (s.got ++ p.more) rest s.given n.frame r2 n.read s.takes d.takes, part_front j gives old mid now left0 left1 before w1 w2 r1 s n.frame d)
+        (s.given ++ n.frame ∷ [], inl (first_more j.command (s.got ++ p.more) rest s.given n.frame r2 n.read s.takes d.takes, part_front j H gives old mid now left0 left1 before w1 w2 r1 s n.frame d))
     by_end frames.CoreFault rest d b =
         subst (λ (o : Outcome). Ends j.command ((s.got ++ p.more) ++ rest) (s.got ++ p.more) (traces before w2 old.fed now.fed) o) (sym b)
         (s.given, n.frame, first_more j.command (s.got ++ p.more) rest s.given n.frame r2 n.read s.takes d.0, same_all j.command s.given before w1 w2 old.fed mid.fed now.fed w d.2 d.1)
     by_end (frames.Memory x) rest d b =
         subst (λ (o : Outcome). Ends j.command ((s.got ++ p.more) ++ rest) (s.got ++ p.more) (traces before w2 old.fed now.fed) o) (sym b)
         (elim d [
-          | inl part ↦ (s.given ++ n.frame ∷ [], first_more j.command (s.got ++ p.more) rest s.given n.frame r2 n.read s.takes part.takes, part_front j gives old mid now left0 left1 before w1 w2 r1 s n.frame part)
-          | inr none ↦ (s.given, first_less j.command (s.got ++ p.more) rest s.given n.frame r2 n.read s.takes, none_front j.command s.given before w1 w2 old.fed mid.fed now.fed w none.written none.fed)
+          | inl part ↦ (s.given ++ n.frame ∷ [], inl (first_more j.command (s.got ++ p.more) rest s.given n.frame r2 n.read s.takes part.takes, part_front j H gives old mid now left0 left1 before w1 w2 r1 s n.frame part))
+          | inr none ↦ (s.given, inl (first_less j.command (s.got ++ p.more) rest s.given n.frame r2 n.read s.takes, none_front j.command s.given before w1 w2 old.fed mid.fed now.fed w none.written none.fed))
         ])
 
 -- a core fault comes of a core fault
@@ -310,3 +348,35 @@ becomes_core (frames.Refused r) is.TooLarge b e = absurd b
 becomes_core frames.WriteFault outcome b e = absurd cc
 becomes_core frames.CoreFault outcome b e = refl
 becomes_core (frames.Memory x) outcome b e = absurd cc
+
+-- ---- which counts rose at the end
+
+close_counts : (counts : Counts) (out : ℕ) (answer : Result (Unit {0}) DeviceFault) → HasCause (has_failed answer) counts.out out → Caused counts (record { shelf = counts.shelf; out = out; core = counts.core }) (outcome_of_close answer)
+close_counts counts out (Ok u) h = ap (λ (n : ℕ). let c : Counts = record { shelf = counts.shelf; out = n; core = counts.core } in c) h.counted
+close_counts counts out (Err devices.Failed) h = (refl, h.counted, refl)
+close_counts counts out (Err (devices.Memory x)) h = ap (λ (n : ℕ). let c : Counts = record { shelf = counts.shelf; out = n; core = counts.core } in c) h.counted
+
+abbrev counts_of : ℕ → ℕ → ℕ → Counts
+counts_of shelf out core = record { shelf = shelf; out = out; core = core }
+
+pub close_caused : (shelf shelf_now out mid out_now core core_now : ℕ) (answer : Result (Unit {0}) DeviceFault) → shelf_now ≡ shelf → mid ≡ out → core_now ≡ core → HasCause (has_failed answer) mid out_now
+    → Caused (counts_of shelf out core) (counts_of shelf_now out_now core_now) (outcome_of_close answer)
+close_caused shelf shelf_now out mid out_now core core_now answer s o c h =
+    subst (λ (n : ℕ). Caused (counts_of shelf out core) (counts_of n out_now core_now) (outcome_of_close answer)) (sym s)
+    (subst (λ (n : ℕ). Caused (counts_of shelf out core) (counts_of shelf out_now n) (outcome_of_close answer)) (sym c)
+    (close_counts (counts_of shelf out core) out_now answer (subst (λ (n : ℕ). HasCause (has_failed answer) n out_now) o h)))
+
+pub close_reads : (answer : Result (Unit {0}) DeviceFault) → outcome_of_close answer ≡ is.ReadFault → ⊥
+close_reads (Ok u) e = cc
+close_reads (Err devices.Failed) e = cc
+close_reads (Err (devices.Memory x)) e = cc
+
+pub close_decodes : (answer : Result (Unit {0}) DeviceFault) → outcome_of_close answer ≡ is.CoreFault → ⊥
+close_decodes (Ok u) e = cc
+close_decodes (Err devices.Failed) e = cc
+close_decodes (Err (devices.Memory x)) e = cc
+
+pub close_writes : (answer : Result (Unit {0}) DeviceFault) → (IsFailed answer → ⊥) → outcome_of_close answer ≡ is.WriteFault → ⊥
+close_writes (Ok u) calm e = cc
+close_writes (Err devices.Failed) calm e = calm refl
+close_writes (Err (devices.Memory x)) calm e = cc

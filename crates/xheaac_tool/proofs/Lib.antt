@@ -5,3 +5,4 @@ pub mod Lines
 pub mod WordLemmas
 pub mod Rans
 pub mod PlaySteps
+pub mod CheckSteps

@@ -1,5 +1,6 @@
 -- Lemmas on lines that are written one after another.
-use Rattle.std.proofs.Common.{◌≡◌, ℕ, zero, suc, ◌+◌, ◌<◌, List, [], ◌∷◌, ◌++◌, length, take, drop, get_or, Bool, true, Option, Err, inl, inr, refl, sym, ap, subst, ◌∙◌, append_assoc, arith, Some}
+use Rattle.std.proofs.Common.{◌≡◌, ℕ, zero, suc, ◌+◌, ◌<◌, List, [], ◌∷◌, ◌++◌, length, take, drop, get_or, Bool, true, Option, Result, Err, inl, inr, refl, sym, ap, subst, ◌∙◌, append_assoc, arith, Some}
+use Rattle.std.specs.Prelude.{if◌then◌else◌}
 use Rattle.std.specs.Io.KnownBytes.{append_known}
 use Rattle.std.proofs.lemmas.Bool.{cases_lt}
 use Rattle.std.proofs.lemmas.List.{take_all, take-append-le, take_at}
@@ -11,6 +12,8 @@ use Rattle.core_iface.specs.Answering.{Meaning}
 use Rattle.outside.specs.declared.fault.DeviceFault.{DeviceFault}
 use Rattle.outside.specs.declared.fault.DeviceFault.TheVariants as devices
 use Rattle.tool_text.specs.MuxLine.{lines_of_mux}
+use Rattle.layout.specs.Laws.{value_read}
+use Rattle.layout.specs.Reader.{Reader}
 use Rattle.layout.specs.Text.{bits_of}
 use Rattle.usac_cfg.specs.declared.usac_config.UsacConfig.{UsacConfig}
 use Rattle.usac_frame.specs.declared.frame.Frame.{Frame as UsacFrame}
@@ -18,7 +21,13 @@ use Rattle.usac_frame.specs.declared.fault.FrameFault.TheVariants as faults
 use Rattle.usac_frame.specs.Frame.{FrameFaults}
 use Rattle.usac_frame.specs.AccessUnit.{IsFrame, frame_of}
 use Rattle.usac_frame.specs.FrameExact.{decided, frame_of_is}
-use Rattle.tool_text.specs.FrameLine.{frame_line}
+use Rattle.usac_frame.specs.Units.{first_payload, is_immediate}
+use Rattle.preroll.specs.declared.fault.PreFault.{PreFault}
+use Rattle.preroll.specs.declared.fault.PreFault.TheVariants as prerolls
+use Rattle.preroll.specs.declared.preroll.PreRoll.{PreRoll}
+use Rattle.preroll.specs.PreRoll.{IsWellFormed, preroll_text, fault_read, fault_of, PreRollFaults}
+use Rattle.preroll.specs.PreRollExact.{preroll_exact, preroll_of_is}
+use Rattle.tool_text.specs.PreRollLines.{bad_line, lines_of_preroll}
 use Rattle.tool_text.specs.declared.refusal.Refusal.{Refusal}
 use Rattle.tool_text.specs.declared.refusal.Place.TheVariants as places
 use Rattle.tool_text.specs.declared.refusal.Reason.TheVariants as reasons
@@ -30,7 +39,7 @@ use Rattle.xheaac_tool.specs.Output.{IsTooShort}
 use Rattle.xheaac_tool.specs.Reading.{ReadsUnit}
 use Rattle.xheaac_tool.specs.declared.frame_end.FrameEnd.{FrameEnd}
 use Rattle.xheaac_tool.specs.declared.frame_end.FrameEnd.TheVariants as ends
-use Rattle.xheaac_tool.specs.Showing.{joined, mux_where, line_where, shown_of, show_job}
+use Rattle.xheaac_tool.specs.Showing.{joined, mux_where, lines_where, payload_lines, preroll_where, frame_text, text_where, shown_of, show_job}
 use Rattle.xheaac_tool.proofs.Handing.{append-append}
 
 -- a front of a front
@@ -76,15 +85,26 @@ lines_all before after mux lines is written = written ∙ ap (λ (x : List (List
 pub lines_part : (before after : Option (List ℕ)) (mux : MuxConfig) (lines : List (List ℕ)) → lines ≡ lines_of_mux mux → WrotePart before after (joined lines) → WrotePart before after (mux_where true mux)
 lines_part before after mux lines is part = subst (λ (x : List (List ℕ)). WrotePart before after (joined x)) is part
 
+-- the lines of a payload that is a preroll, and of one that is none
+pub payload_good : (payload : List ℕ) (p : PreRoll) → IsWellFormed p → bits_of payload ≡ preroll_text p → payload_lines payload ≡ lines_of_preroll p
+payload_good payload p fits spelled = ap (λ (o : Option PreRoll). lines_where o (fault_of payload)) (preroll_of_is.found (bits_of payload) p fits spelled)
+
+pub payload_bad : (payload : List ℕ) (at : ℕ) → PreRollFaults (prerolls.Short at) payload → payload_lines payload ≡ bad_line at ∷ []
+payload_bad payload at bad =
+    ap (λ (q : Result (PreRoll × Reader) PreFault). lines_where (value_read q) (fault_read q)) (preroll_exact.only (record { text = bits_of payload; at = 0 }) (prerolls.Short at) bad)
+
+pub preroll_all : (c : UsacConfig) (g : UsacFrame) (lines : List (List ℕ)) → is_immediate c g ≡ true → lines ≡ payload_lines (first_payload g) → joined lines ≡ preroll_where c g
+preroll_all c g lines immediate is = ap joined is ∙ sym (ap (λ (b : Bool). if b then joined (payload_lines (first_payload g)) else []) immediate)
+
 -- what is written of a frame
 text_is : (number : ℕ) (f : Frame) (bytes : ℕ) (opens : Bool) (mux : MuxConfig) (event_number : ℕ) (g : UsacFrame) → opens ≡ f.opens → mux ≡ f.mux → event_number ≡ number → bytes ≡ length f.au → frame_of (config_of f) f.au ≡ Some g
-    → mux_where opens mux ++ frame_line event_number bytes g ≡ shown_of number f
+    → mux_where opens mux ++ frame_text mux.asc.usac event_number bytes g ≡ shown_of number f
 text_is number f bytes opens mux event_number g o m n b found =
-    ap (λ (x : Bool). mux_where x mux ++ frame_line event_number bytes g) o
-    ∙ ap (λ (x : MuxConfig). mux_where f.opens x ++ frame_line event_number bytes g) m
-    ∙ ap (λ (x : ℕ). mux_where f.opens f.mux ++ frame_line x bytes g) n
-    ∙ ap (λ (x : ℕ). mux_where f.opens f.mux ++ frame_line number x g) b
-    ∙ ap (λ (x : Option UsacFrame). mux_where f.opens f.mux ++ line_where number (length f.au) x) (sym found)
+    ap (λ (x : Bool). mux_where x mux ++ frame_text mux.asc.usac event_number bytes g) o
+    ∙ ap (λ (x : MuxConfig). mux_where f.opens x ++ frame_text x.asc.usac event_number bytes g) m
+    ∙ ap (λ (x : ℕ). mux_where f.opens f.mux ++ frame_text (config_of f) x bytes g) n
+    ∙ ap (λ (x : ℕ). mux_where f.opens f.mux ++ frame_text (config_of f) number x g) b
+    ∙ ap (λ (x : Option UsacFrame). mux_where f.opens f.mux ++ text_where (config_of f) number (length f.au) x) (sym found)
 
 frame_is : (f : Frame) (config : UsacConfig) (au : List ℕ) (g : UsacFrame) → config ≡ config_of f → au ≡ f.au → IsFrame config au g → IsFrame (config_of f) f.au g
 frame_is f config au g c a is = subst (λ (x : List ℕ). IsFrame (config_of f) x g) a (subst (λ (x : UsacConfig). IsFrame x au g) c is)
@@ -105,7 +125,7 @@ too_short before f config au number at r c a n bad is = record {
 
 -- a frame of which a part was written
 pub show_stopped : (d : Definitions) (before : List Frame) (f : Frame) (m : Meaning) (w0 w1 : Option (List ℕ)) (event : Event) (mux : MuxConfig) (g : UsacFrame) (fault : DeviceFault) → IsEvent before f event → mux ≡ f.mux → IsFrame mux.asc.usac event.au g
-    → WrotePart w0 w1 (mux_where event.opens mux ++ frame_line event.frame (length event.au) g) → Handles (show_job d) before f m m w0 w1 (Err (from_device fault))
+    → WrotePart w0 w1 (mux_where event.opens mux ++ frame_text mux.asc.usac event.frame (length event.au) g) → Handles (show_job d) before f m m w0 w1 (Err (from_device fault))
 show_stopped d before f m w0 w1 event mux g fault e is frame part = by_fault fault
   where
     did : DidPart (show_job d) before f m m w0 w1
@@ -124,7 +144,7 @@ show_stopped d before f m w0 w1 event mux g fault e is frame part = by_fault fau
 
 -- a frame that was shown
 pub show_did : (d : Definitions) (before : List Frame) (f : Frame) (m : Meaning) (w0 w1 : Option (List ℕ)) (event : Event) (mux : MuxConfig) (g : UsacFrame) → IsEvent before f event → mux ≡ f.mux → IsFrame mux.asc.usac event.au g
-    → w1 ≡ append_known w0 (mux_where event.opens mux ++ frame_line event.frame (length event.au) g) → DidFrame (show_job d) before f m m w0 w1
+    → w1 ≡ append_known w0 (mux_where event.opens mux ++ frame_text mux.asc.usac event.frame (length event.au) g) → DidFrame (show_job d) before f m m w0 w1
 show_did d before f m w0 w1 event mux g e is frame written =
     let config : mux.asc.usac ≡ config_of f = ap (λ (x : MuxConfig). x.asc.usac) is in
     let found = frame_of_is.found (config_of f) f.au g (frame_is f mux.asc.usac event.au g config e.au frame) in

@@ -20,7 +20,7 @@ use Rattle.core_iface.specs.Answering.{Running, Meaning, stepped, emitted}
 use Rattle.core_iface.specs.Samples.{sample_bytes}
 use Rattle.outside.specs.declared.fault.DeviceFault.{DeviceFault}
 use Rattle.outside.specs.declared.fault.DeviceFault.TheVariants as devices
-use Rattle.au_stream.specs.Frames.{Frame, config_of}
+use Rattle.au_stream.specs.Frames.{Frame, config_of, last_of, IsChange, IsSame}
 use Rattle.xheaac_tool.specs.Commands.{Takes}
 use Rattle.xheaac_tool.specs.Handing.{WrotePart}
 use Rattle.xheaac_tool.specs.OneFrame.{CausedBy, IsOpenable, ServesReset, Handles, DidFrame, DidPart, from_device}
@@ -81,9 +81,13 @@ pub later_change : (before : List Frame) (f : Frame) (event : Event) → IsEvent
 later_change [] f event e changed some = absurd (omega (arith, e.number, some))
 later_change (g ∷ before) f event e changed some = e.changed.0 changed
 
+not_both : (last : Option Frame) (f : Frame) → IsChange last f → IsSame last f → ⊥
+not_both None f change same = same
+not_both (Some g) f change same = change same
+
 pub no_change : (before : List Frame) (f : Frame) (event : Event) → IsEvent before f event → event.changed ≡ false → IsLater before f → ⊥
 no_change [] f event e same later = later
-no_change (g ∷ before) f event e same later = let never : false ≡ true = sym same ∙ e.changed.1 later in cc
+no_change (g ∷ before) f event e same later = not_both (last_of (g ∷ before)) f later (e.changed.1 same)
 
 pub no_later : (before : List Frame) (f : Frame) (event : Event) → IsEvent before f event → event.frame ≤ 0 → IsLater before f → ⊥
 no_later [] f event e none later = later

@@ -12,13 +12,13 @@ use Rattle.au_stream.proofs.Scripts.{frames_of_script, frames_of_front}
 use Rattle.xheaac_tool.specs.Commands.{Command, TakesAll}
 use Rattle.xheaac_tool.specs.Causes.{Counts, Caused}
 use Rattle.xheaac_tool.specs.Handing.{WrotePart}
-use Rattle.xheaac_tool.specs.Ending.{Traces, DoesFile, Ends, TakesFirst, Passes, IsRefused, WroteFront}
+use Rattle.xheaac_tool.specs.Ending.{Traces, DoesFile, Ends, TakesFirst, Passes, IsRefused, WroteAll, WroteClosed, WroteSome}
 use Rattle.xheaac_tool.specs.Doing.{IsNotBegun}
 use Rattle.xheaac_tool.specs.Ran.{Notes, Noted, Reports, IsTextOfCommand, NotedFront, NotesOf, CausesOf, RunsFile, command_of, status_of, text_of}
 use Rattle.xheaac_tool.specs.Texts.{memory_text}
 use Rattle.xheaac_tool.specs.declared.words.Asked.{Asked}
 use Rattle.xheaac_tool.specs.Asked.{asked}
-use Rattle.xheaac_tool.specs.Words.{Case, case_of, file_in, file_of, Show, Play}
+use Rattle.xheaac_tool.specs.Words.{Case, case_of, file_in, file_of, Show, Check, Play}
 use Rattle.xheaac_tool.specs.declared.outcome.Outcome.{Outcome}
 use Rattle.xheaac_tool.specs.declared.outcome.Outcome.TheVariants as is
 use Rattle.xheaac_tool.proofs.Endings.{told}
@@ -106,8 +106,7 @@ large_outcome n o s r e = at_seven o (told_status n o s 7 r e (λ same. omega ar
 -- the frames of the file of which a front was written
 record Front (c : Command) (text : List ℕ) (t : Traces) (o : Outcome) : Type 0 where
   frames : List Frame
-  takes : TakesFirst c text frames
-  wrote : WroteFront c frames t
+  wrote : WroteSome c text frames t
   noted : IsTextOfCommand c text frames (text_of o) ⊎ (text_of o ≡ [])
 
 -- all frames of a script
@@ -118,21 +117,33 @@ refused_first : (c : Command) (text : List ℕ) (fs : List Frame) (r : Refusal) 
 refused_first c text fs r (inl x) = record { later = x.frame ∷ x.later; of_file = x.of_file; takes = x.takes }
 refused_first c text fs r (inr x) = all_first c text fs x.mark (record { script = x.script; takes = x.takes })
 
+-- the output of the first frames was written, or all output
+first_all : (c : Command) (text : List ℕ) (fs : List Frame) (t : Traces) → TakesFirst c text fs → WroteAll c fs t → WroteSome c text fs t
+first_all c text fs t first w = inl (first, all_front c fs t w)
+
+closed_all : (c : Command) (text : List ℕ) (fs : List Frame) (t : Traces) → Passes c text fs End → WroteClosed c fs t → WroteSome c text fs t
+closed_all c text fs t passes w =
+    let xs = c.output fs ++ w.closing in
+    inr (
+      passes,
+      record { closing = w.closing; closes = w.closes; written = (length xs, w.written ∙ ap (λ (x : List ℕ). append_known t.written_before x) (sym (take_all (length xs) xs (omega arith)))); fed = w.fed },
+    )
+
 -- however the command ended, a front of the output was written
 front_of : (c : Command) (text : List ℕ) (remains : Option (List ℕ)) (t : Traces) (o : Outcome) → DoesFile c text remains t o → Front c text t o
-front_of c text remains t is.Done p = let s = p.ends in record { frames = s.0; takes = all_first c text s.0 End s.1; wrote = all_front c s.0 t s.2; noted = inr refl }
+front_of c text remains t is.Done p = let s = p.ends in record { frames = s.0; wrote = closed_all c text s.0 t s.1 s.2; noted = inr refl }
 front_of c text remains t (is.Refused words) p =
     let s = p.ends in
-    record { frames = s.0; takes = refused_first c text s.0 s.1 s.2; wrote = all_front c s.0 t s.4; noted = inl (inr (inr (inr (inr (inr (s.1, s.2, s.3)))))) }
+    record { frames = s.0; wrote = first_all c text s.0 t (refused_first c text s.0 s.1 s.2) s.4; noted = inl (inr (inr (inr (inr (inr (s.1, s.2, s.3)))))) }
 front_of c text remains t is.ReadFault p =
     let s = p.ends in
     let k = told text p.taken remains p.from in
     let f = frames_of_front p.taken k.0 s.0 s.1 s.2.script s.3 in
-    record { frames = s.0; takes = record { later = f.0; of_file = subst (λ (x : List ℕ). HasFrames x (s.0 ++ f.0)) (sym k.2) f.1; takes = s.2.takes }; wrote = all_front c s.0 t s.4; noted = inl (inr (inl refl)) }
-front_of c text remains t is.WriteFault p = let s = p.ends in record { frames = s.0; takes = s.1; wrote = s.2; noted = inl (inr (inr (inl refl))) }
+    record { frames = s.0; wrote = first_all c text s.0 t (record { later = f.0; of_file = subst (λ (x : List ℕ). HasFrames x (s.0 ++ f.0)) (sym k.2) f.1; takes = s.2.takes }) s.4; noted = inl (inr (inl refl)) }
+front_of c text remains t is.WriteFault p = let s = p.ends in record { frames = s.0; wrote = s.1; noted = inl (inr (inr (inl refl))) }
 front_of c text remains t is.CoreFault p =
     let s = p.ends in
-    record { frames = s.0; takes = first_of c text s.0 s.1 s.2; wrote = all_front c s.0 t s.3; noted = inl (inr (inr (inr (inl refl)))) }
+    record { frames = s.0; wrote = first_all c text s.0 t (first_of c text s.0 s.1 s.2) s.3; noted = inl (inr (inr (inr (inl refl)))) }
   where
     front_takes : (c : Command) (before fs more : List Frame) → TakesAll c before (fs ++ more) → TakesAll c before fs
     front_takes c before [] more h = tt
@@ -140,8 +151,8 @@ front_of c text remains t is.CoreFault p =
 
     first_of : (c : Command) (text : List ℕ) (fs : List Frame) (f : Frame) → TakesFirst c text (fs ++ f ∷ []) → TakesFirst c text fs
     first_of c text fs f h = record { later = f ∷ h.later; of_file = subst (λ (x : List Frame). HasFrames text x) (append_assoc fs (f ∷ []) h.later) h.of_file; takes = front_takes c [] fs (f ∷ []) h.takes }
-front_of c text remains t (is.Memory error) p = let s = p.ends in record { frames = s.0; takes = s.1; wrote = s.2; noted = inl (inl refl) }
-front_of c text remains t is.TooLarge p = let s = p.ends in record { frames = s.0; takes = all_first c text s.0 TooLarge s.1; wrote = all_front c s.0 t s.2; noted = inl (inr (inr (inr (inr (inl refl))))) }
+front_of c text remains t (is.Memory error) p = let s = p.ends in record { frames = s.0; wrote = s.1; noted = inl (inl refl) }
+front_of c text remains t is.TooLarge p = let s = p.ends in record { frames = s.0; wrote = first_all c text s.0 t (all_first c text s.0 TooLarge s.1) s.2; noted = inl (inr (inr (inr (inr (inl refl))))) }
 
 -- whatever the status, note grew by a front of the outcome's text
 part_noted : (n : Notes) (o : Outcome) (wanted s : ℕ) → Reports n (text_of o) wanted s → WrotePart n.before n.after (text_of o)
@@ -173,7 +184,7 @@ runs_file c text remains t n o s p r = record {
   read = λ e. subst (λ (x : Outcome). Ends c text p.taken t x) (read_outcome n o s r e) p.ends;
   write = λ e. subst (λ (x : Outcome). Ends c text p.taken t x) (write_outcome n o s r e) p.ends;
   core = λ e. subst (λ (x : Outcome). Ends c text p.taken t x) (core_outcome n o s r e) p.ends;
-  memory = λ e. let f = front_of c text remains t o p in (f.frames, f.takes, noted_front c text t n o f (part_noted n o (status_of o) s r), f.wrote);
+  memory = λ e. let f = front_of c text remains t o p in (f.frames, noted_front c text t n o f (part_noted n o (status_of o) s r), f.wrote);
   large = λ e. subst (λ (x : Outcome). Ends c text p.taken t x) (large_outcome n o s r e) p.ends;
 }
 
@@ -246,13 +257,14 @@ known_case read is case found e of_words named = same_case (asked is) case (ap (
 pub file_named : (words : List (List ℕ)) (case : Case) → case_of words ≡ Some case → file_of words ≡ file_in case
 file_named [] case e = absurd cc
 file_named (command ∷ []) case e = absurd cc
-file_named (command ∷ name ∷ []) case e = by_show (bytes_eq command (codes "show")) (bytes_eq command (codes "play")) e
+file_named (command ∷ name ∷ []) case e = by_words (bytes_eq command (codes "show")) (bytes_eq command (codes "check")) (bytes_eq command (codes "play")) e
   where
     named : (c d : Case) → some_case c ≡ some_case d → file_in c ≡ name → name ≡ file_in d
     named c d e here = sym here ∙ ap file_in (same_case c d e)
 
-    by_show : (a b : Bool) → (if a then Some (Show name) else (if b then Some (Play name) else None)) ≡ Some case → name ≡ file_in case
-    by_show true b e = named (Show name) case e refl
-    by_show false true e = named (Play name) case e refl
-    by_show false false e = absurd cc
+    by_words : (a b c : Bool) → (if a then Some (Show name) else (if b then Some (Check name) else (if c then Some (Play name) else None))) ≡ Some case → name ≡ file_in case
+    by_words true b c e = named (Show name) case e refl
+    by_words false true c e = named (Check name) case e refl
+    by_words false false true e = named (Play name) case e refl
+    by_words false false false e = absurd cc
 file_named (command ∷ name ∷ more ∷ words) case e = absurd cc

@@ -1,5 +1,5 @@
 -- What a command makes of the frames of a stream.
-use Rattle.std.specs.Prelude.{ℕ, Bool, true, false, List, [], ◌∷◌, ◌++◌}
+use Rattle.std.specs.Prelude.{◌≡◌, ℕ, Bool, true, false, List, [], ◌∷◌, ◌++◌}
 use Rattle.tool_text.specs.declared.refusal.Refusal.{Refusal}
 use Rattle.au_stream.specs.Frames.{Frame}
 
@@ -8,8 +8,14 @@ pub record Command : Type 1 where
   pub Refuses : List Frame → Frame → Refusal → Type 0
   -- what it writes for frames that it takes
   pub output : List Frame → List ℕ
+  -- what it writes behind them at the end of the file
+  pub Closes : List Frame → List ℕ → Type 0
   -- whether it feeds each frame to the core
   pub feeds : Bool
+
+-- it writes nothing at the end
+abbrev pub ClosesSilently : List Frame → List ℕ → Type 0
+ClosesSilently frames text = text ≡ []
 
 -- it refuses the frame for no reason
 abbrev pub Takes : Command → List Frame → Frame → Type 0

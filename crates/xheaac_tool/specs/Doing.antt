@@ -1,8 +1,10 @@
 -- What a command on a source has done so far, and what it has done at its end, whether the source tells its bytes or not.
-use Rattle.std.specs.Prelude.{◌≡◌, ℕ, ◌+◌, ◌<◌, ◌≤◌, Bool, true, List, [], ◌++◌, length, Some}
+use Rattle.std.specs.Prelude.{◌≡◌, ℕ, ◌+◌, ◌<◌, ◌≤◌, Bool, true, List, [], ◌++◌, length, Some, Result, Ok, Err}
 use Rattle.std.specs.declared.option.Option.{Option}
 use Rattle.std.specs.Io.KnownBytes.{prepend_known, append_known, IsAtEnd}
 use Rattle.core_iface.specs.Answering.{Meaning}
+use Rattle.outside.specs.declared.fault.DeviceFault.{DeviceFault}
+use Rattle.outside.specs.declared.fault.DeviceFault.TheVariants as devices
 use Rattle.tool_text.specs.declared.refusal.Refusal.{Refusal}
 use Rattle.tool_text.specs.Refusal.{refusal_text}
 use Rattle.tool_text.specs.Faults.{refusal_of_loas, refusal_of_mux}
@@ -20,12 +22,13 @@ use Rattle.xheaac_tool.specs.Commands.{Command, TakesAll, fed_for}
 use Rattle.xheaac_tool.specs.Ending.{Traces, Ends}
 
 -- Between two frames: those that were given were taken and handled.
-pub record GoesOn (j : Job) (old now : Meaning) (left_before left_now before written : Option (List ℕ)) (reader : Reading) : Type 0 where
+pub record GoesOn (j : Job) (Holds : List Frame → Type 0) (old now : Meaning) (left_before left_now before written : Option (List ℕ)) (reader : Reading) : Type 0 where
   pub given : List Frame
   pub got : List ℕ
   pub from : left_before ≡ prepend_known got left_now
   pub read : HasRead got given reader
   pub takes : TakesAll j.command [] given
+  pub holds : Holds given
   pub ready : now.ready ≡ step_through j [] old.ready given
   pub needed : 0 < length given → j.Needs now.ready
   pub fed : now.fed ≡ old.fed + fed_for j.command.feeds (length given)
@@ -67,6 +70,12 @@ BecomesOf (frames.Refused refusal) outcome = IsRefusedBy (Some refusal) outcome
 BecomesOf frames.WriteFault outcome = outcome ≡ is.WriteFault
 BecomesOf frames.CoreFault outcome = outcome ≡ is.CoreFault
 BecomesOf (frames.Memory e) outcome = outcome ≡ is.Memory e
+
+-- what the command ends with at the end of the stream
+abbrev pub outcome_of_close : Result (Unit {0}) DeviceFault → Outcome
+outcome_of_close (Ok _) = is.Done
+outcome_of_close (Err devices.Failed) = is.WriteFault
+outcome_of_close (Err (devices.Memory e)) = is.Memory e
 
 -- the shelf refused to begin the input
 abbrev pub IsNotBegun : Outcome → Type 0

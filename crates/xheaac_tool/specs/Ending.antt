@@ -31,6 +31,20 @@ pub record WroteFront (c : Command) (frames : List Frame) (t : Traces) : Type 0 
   pub written : WrotePart t.written_before t.written_after (c.output frames)
   pub fed : t.fed_after ≤ t.fed_before + fed_for c.feeds (length frames + 1)
 
+-- The whole output of all frames of a file was written, and what the command writes at the end of it.
+pub record WroteClosed (c : Command) (frames : List Frame) (t : Traces) : Type 0 where
+  pub closing : List ℕ
+  pub closes : c.Closes frames closing
+  pub written : t.written_after ≡ append_known t.written_before (c.output frames ++ closing)
+  pub fed : t.fed_after ≡ t.fed_before + fed_for c.feeds (length frames)
+
+-- A front of these was written.
+pub record WroteClosedFront (c : Command) (frames : List Frame) (t : Traces) : Type 0 where
+  pub closing : List ℕ
+  pub closes : c.Closes frames closing
+  pub written : WrotePart t.written_before t.written_after (c.output frames ++ closing)
+  pub fed : t.fed_after ≡ t.fed_before + fed_for c.feeds (length frames)
+
 -- the refusal that a mark is, if it is one
 abbrev pub refusal_of_mark : Mark → Option Refusal
 refusal_of_mark End = None
@@ -69,16 +83,20 @@ pub record TakesFirst (c : Command) (text : List ℕ) (frames : List Frame) : Ty
   pub of_file : HasFrames text (frames ++ later)
   pub takes : TakesAll c [] frames
 
+-- A front of the command's output was written: of that of the first frames of the file, or of all of it.
+abbrev pub WroteSome : Command → List ℕ → List Frame → Traces → Type 0
+WroteSome c text frames t = (TakesFirst c text frames × WroteFront c frames t) ⊎ (Passes c text frames End × WroteClosedFront c frames t)
+
 -- How the command ends on a file with these bytes, of which some were taken.
 abbrev pub Ends : Command → List ℕ → List ℕ → Traces → Outcome → Type 0
-Ends c text taken t is.Done = (frames : List Frame) × Passes c text frames End × WroteAll c frames t
+Ends c text taken t is.Done = (frames : List Frame) × Passes c text frames End × WroteClosed c frames t
 Ends c text taken t (is.Refused words) = (frames : List Frame) × (r : Refusal) × IsRefused c text frames r × (words ≡ refusal_text r) × WroteAll c frames t
 -- the script of the bytes taken may go on
 Ends c text taken t is.ReadFault = (frames : List Frame) × (mark : Mark) × Passes c taken frames mark × IsOpen mark × WroteAll c frames t
-Ends c text taken t is.WriteFault = (frames : List Frame) × TakesFirst c text frames × WroteFront c frames t
+Ends c text taken t is.WriteFault = (frames : List Frame) × WroteSome c text frames t
 -- the core failed at the frame behind those that were written
 Ends c text taken t is.CoreFault = (frames : List Frame) × (failed : Frame) × TakesFirst c text (frames ++ failed ∷ []) × WroteAll c frames t
-Ends c text taken t (is.Memory e) = (frames : List Frame) × TakesFirst c text frames × WroteFront c frames t
+Ends c text taken t (is.Memory e) = (frames : List Frame) × WroteSome c text frames t
 Ends c text taken t is.TooLarge = (frames : List Frame) × Passes c text frames TooLarge × WroteAll c frames t
 
 -- The command on a file with these bytes: what was taken of it, and how the command ended.

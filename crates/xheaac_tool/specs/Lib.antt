@@ -3,6 +3,8 @@ pub mod Jobs
 pub mod Output
 pub mod Stepping
 pub mod Showing
+pub mod Checking
+pub mod Counting
 pub mod Outputs
 pub mod Handing
 pub mod Reading

@@ -1,5 +1,5 @@
 -- What a command does with one frame.
-use Rattle.std.specs.Prelude.{◌≡◌, ℕ, ◌+◌, ◌≤◌, ◌⊎◌, List, ◌++◌, IsSome, Option, Some, None, Result, Ok, Err, ℤ}
+use Rattle.std.specs.Prelude.{◌≡◌, ℕ, ◌+◌, ◌≤◌, ◌⊎◌, List, ◌++◌, IsSome, Option, Some, None, Result, Ok, Err, OnOk, OnErr, ℤ}
 use Rattle.std.specs.Io.KnownBytes.{append_known}
 use Rattle.causes.specs.Counts.{Rose}
 use Rattle.usac_cfg.specs.declared.usac_config.UsacConfig.{UsacConfig}
@@ -78,3 +78,10 @@ CausedBy out_old out_new core_old core_new (Err (ends.Refused refusal)) = (out_n
 CausedBy out_old out_new core_old core_new (Err ends.WriteFault) = Rose out_old out_new × (core_new ≡ core_old)
 CausedBy out_old out_new core_old core_new (Err ends.CoreFault) = (out_new ≡ out_old) × Rose core_old core_new
 CausedBy out_old out_new core_old core_new (Err (ends.Memory e)) = (out_new ≡ out_old) × (core_new ≡ core_old)
+
+-- What a call at the end of the stream wrote.
+pub record Closed (Closes : List ℕ → Type 0) (written_old written_new : Option (List ℕ)) (result : Result (Unit {0}) DeviceFault) : Type 0 where
+  pub closing : List ℕ
+  pub closes : Closes closing
+  pub ok : OnOk result (written_new ≡ append_known written_old closing)
+  pub err : OnErr result (WrotePart written_old written_new closing)

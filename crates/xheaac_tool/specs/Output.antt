@@ -14,7 +14,7 @@ use Rattle.tool_text.specs.declared.refusal.Reason.{Reason}
 use Rattle.tool_text.specs.declared.refusal.Reason.TheVariants as reasons
 use Rattle.tool_text.specs.declared.refusal.Refusal.{Refusal}
 use Rattle.au_stream.specs.Frames.{Frame, config_of, last_of, IsChange}
-use Rattle.xheaac_tool.specs.Commands.{Command}
+use Rattle.xheaac_tool.specs.Commands.{Command, ClosesSilently}
 
 -- the units of the frames' access units
 abbrev pub units_of : List Frame → List UnitValue
@@ -56,7 +56,7 @@ pub data PlayRefuses (before : List Frame) (f : Frame) (r : Refusal) : Type 0 wh
 
 -- `play` writes the sample bytes of frames, each of which it feeds to the core.
 abbrev pub playing : Definitions → Command
-playing d = record { Refuses = PlayRefuses; output = output d; feeds = true }
+playing d = record { Refuses = PlayRefuses; output = output d; Closes = ClosesSilently; feeds = true }
 
 -- the core serves the configuration of a frame
 abbrev pub IsServed : Definitions → Frame → Type 0

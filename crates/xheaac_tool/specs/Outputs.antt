@@ -10,6 +10,7 @@ use Rattle.usac_frame.specs.AccessUnit.{unit_in}
 use Rattle.xheaac_tool.specs.Output.{units_of}
 use Rattle.xheaac_tool.specs.Stepping.{play_job}
 use Rattle.xheaac_tool.specs.Showing.{shown_of, shown_from, show_job}
+use Rattle.xheaac_tool.specs.Checking.{check_job}
 
 -- ---- show
 
@@ -20,6 +21,15 @@ shown d ready before (f ∷ fs) =
 
 pub show_gives : (d : Definitions) → GivesOutput (show_job d)
 show_gives d ready frames takes = shown d ready [] frames
+
+-- ---- check
+
+checked : (d : Definitions) (ready : Option Running) (before fs : List Frame) → bytes_through (check_job d) before ready fs ≡ []
+checked d ready before [] = refl
+checked d ready before (f ∷ fs) = checked d ready (before ++ f ∷ []) fs
+
+pub check_gives : (d : Definitions) → GivesOutput (check_job d)
+check_gives d ready frames takes = checked d ready [] frames
 
 -- ---- play
 

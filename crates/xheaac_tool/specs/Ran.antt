@@ -11,10 +11,11 @@ use Rattle.au_stream.specs.Frames.{Frame}
 use Rattle.au_stream.specs.Script.{most_bytes, Mark, End, TooLarge, IsOpen}
 use Rattle.xheaac_tool.specs.Output.{playing, IsServed}
 use Rattle.xheaac_tool.specs.Showing.{showing}
-use Rattle.xheaac_tool.specs.Words.{Case, Show, Play}
+use Rattle.xheaac_tool.specs.Checking.{checking}
+use Rattle.xheaac_tool.specs.Words.{Case, Show, Check, Play}
 use Rattle.xheaac_tool.specs.Causes.{Counts, Caused}
 use Rattle.xheaac_tool.specs.Handing.{WrotePart}
-use Rattle.xheaac_tool.specs.Ending.{Traces, IsRefused, Passes, TakesFirst, WroteAll, WroteFront, OfFile}
+use Rattle.xheaac_tool.specs.Ending.{Traces, IsRefused, Passes, TakesFirst, WroteAll, WroteClosed, WroteSome, OfFile}
 use Rattle.xheaac_tool.specs.Texts.{read_text, write_text, core_text, memory_text, large_text}
 use Rattle.xheaac_tool.specs.declared.outcome.Outcome.{Outcome}
 use Rattle.xheaac_tool.specs.declared.outcome.Outcome.TheVariants as is
@@ -83,22 +84,24 @@ pub record RunsFile (c : Command) (text : List ℕ) (remains : Option (List ℕ)
   pub taken : List ℕ
   pub from : Some text ≡ prepend_known taken remains
   pub within : length taken ≤ most_bytes + 1
-  pub done : status ≡ 0 → (frames : List Frame) × Passes c text frames End × WroteAll c frames t
+  pub done : status ≡ 0 → (frames : List Frame) × Passes c text frames End × WroteClosed c frames t
   pub refused : status ≡ 1 → (frames : List Frame) × (r : Refusal) × IsRefused c text frames r × Noted n (refusal_text r) × WroteAll c frames t
   -- the script of the bytes taken may go on
   pub read : status ≡ 3 → (frames : List Frame) × (mark : Mark) × Passes c taken frames mark × IsOpen mark × WroteAll c frames t
-  pub write : status ≡ 4 → (frames : List Frame) × TakesFirst c text frames × WroteFront c frames t
+  pub write : status ≡ 4 → (frames : List Frame) × WroteSome c text frames t
   -- the core failed at the frame behind those that were written
   pub core : status ≡ 5 → (frames : List Frame) × (failed : Frame) × TakesFirst c text (frames ++ failed ∷ []) × WroteAll c frames t
-  pub memory : status ≡ 6 → (frames : List Frame) × TakesFirst c text frames × NotedFront c text frames n × WroteFront c frames t
+  pub memory : status ≡ 6 → (frames : List Frame) × NotedFront c text frames n × WroteSome c text frames t
   pub large : status ≡ 7 → (frames : List Frame) × Passes c text frames TooLarge × WroteAll c frames t
 
 -- the command of a case
 abbrev pub command_of : Definitions → Case → Command
 command_of d (Show file) = showing
+command_of d (Check file) = checking
 command_of d (Play file) = playing d
 
 -- the core serves each configuration that the case puts in force for it
 abbrev pub IsCaseServed : Definitions → Case → List ℕ → Type 0
 IsCaseServed d (Show file) text = Unit {0}
+IsCaseServed d (Check file) text = Unit {0}
 IsCaseServed d (Play file) text = OfFile (playing d) (IsServed d) text

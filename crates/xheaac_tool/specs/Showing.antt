@@ -1,14 +1,21 @@
 -- What `show` writes for the frames of a stream.
-use Rattle.std.specs.Prelude.{ℕ, ◌+◌, Bool, true, false, List, [], ◌∷◌, ◌++◌, length, Option, Some, None}
+use Rattle.std.specs.Prelude.{ℕ, ◌+◌, Bool, true, false, List, [], ◌∷◌, ◌++◌, length, Option, Some, None, if◌then◌else◌}
 use Rattle.std.specs.List.{flat_map}
 use Rattle.core_iface.specs.Decoding.{Definitions}
 use Rattle.latm.specs.declared.mux_config.MuxConfig.{MuxConfig}
 use Rattle.usac_frame.specs.declared.frame.Frame.{Frame as UsacFrame}
+use Rattle.usac_cfg.specs.declared.usac_config.UsacConfig.{UsacConfig}
 use Rattle.usac_frame.specs.AccessUnit.{frame_of}
+use Rattle.usac_frame.specs.Units.{first_payload, is_immediate}
+use Rattle.preroll.specs.declared.fault.PreFault.{PreFault}
+use Rattle.preroll.specs.declared.fault.PreFault.TheVariants as faults
+use Rattle.preroll.specs.declared.preroll.PreRoll.{PreRoll}
+use Rattle.preroll.specs.PreRoll.{preroll_of, fault_of}
 use Rattle.tool_text.specs.MuxLine.{lines_of_mux}
 use Rattle.tool_text.specs.FrameLine.{frame_line}
+use Rattle.tool_text.specs.PreRollLines.{bad_line, lines_of_preroll}
 use Rattle.au_stream.specs.Frames.{Frame, config_of}
-use Rattle.xheaac_tool.specs.Commands.{Command}
+use Rattle.xheaac_tool.specs.Commands.{Command, ClosesSilently}
 use Rattle.xheaac_tool.specs.Jobs.{Job}
 use Rattle.xheaac_tool.specs.Output.{IsTooShort}
 
@@ -21,14 +28,31 @@ abbrev pub mux_where : Bool → MuxConfig → List ℕ
 mux_where true m = joined (lines_of_mux m)
 mux_where false m = []
 
--- the line of a frame with that number and so many bytes
-abbrev pub line_where : ℕ → ℕ → Option UsacFrame → List ℕ
-line_where number bytes None = []
-line_where number bytes (Some g) = frame_line number bytes g
+-- the lines of a preroll, or that of a payload that is none
+abbrev pub lines_where : Option PreRoll → Option PreFault → List (List ℕ)
+lines_where (Some p) fault = lines_of_preroll p
+lines_where None None = []
+lines_where None (Some (faults.Short at)) = bad_line at ∷ []
+lines_where None (Some (faults.Memory e)) = []
 
--- both lines of the frame with that number
+abbrev pub payload_lines : List ℕ → List (List ℕ)
+payload_lines payload = lines_where (preroll_of payload) (fault_of payload)
+
+-- the lines of the preroll of a frame, where it is immediate
+abbrev pub preroll_where : UsacConfig → UsacFrame → List ℕ
+preroll_where c g = if is_immediate c g then joined (payload_lines (first_payload g)) else []
+
+-- the line of a frame with that number and so many bytes, and the lines of its preroll
+abbrev pub frame_text : UsacConfig → ℕ → ℕ → UsacFrame → List ℕ
+frame_text c number bytes g = frame_line number bytes g ++ preroll_where c g
+
+abbrev pub text_where : UsacConfig → ℕ → ℕ → Option UsacFrame → List ℕ
+text_where c number bytes None = []
+text_where c number bytes (Some g) = frame_text c number bytes g
+
+-- all lines of the frame with that number
 abbrev pub shown_of : ℕ → Frame → List ℕ
-shown_of number f = mux_where f.opens f.mux ++ line_where number (length f.au) (frame_of (config_of f) f.au)
+shown_of number f = mux_where f.opens f.mux ++ text_where (config_of f) number (length f.au) (frame_of (config_of f) f.au)
 
 -- the lines of frames, the first of which has that number
 abbrev pub shown_from : ℕ → List Frame → List ℕ
@@ -37,7 +61,7 @@ shown_from number (f ∷ fs) = shown_of number f ++ shown_from (number + 1) fs
 
 -- `show` refuses a frame that is too short, and feeds none.
 abbrev pub showing : Command
-showing = record { Refuses = IsTooShort; output = shown_from 0; feeds = false }
+showing = record { Refuses = IsTooShort; output = shown_from 0; Closes = ClosesSilently; feeds = false }
 
 abbrev pub show_job : Definitions → Job
 show_job d = record {

@@ -8,6 +8,8 @@ use Rattle.std.specs.Str.{bytes_eq}
 pub data Case : Type 0 where
   -- show FILE
   Show : (file : List ℕ) → Case
+  -- check FILE
+  Check : (file : List ℕ) → Case
   -- play FILE
   Play : (file : List ℕ) → Case
 
@@ -17,6 +19,7 @@ case_of [] = None
 case_of (command ∷ []) = None
 case_of (command ∷ file ∷ []) =
     if bytes_eq command (codes "show") then Some (Show file) else
+    if bytes_eq command (codes "check") then Some (Check file) else
     if bytes_eq command (codes "play") then Some (Play file) else None
 case_of (command ∷ file ∷ more ∷ words) = None
 
@@ -27,12 +30,16 @@ texts words = map string_bytes words
 abbrev pub IsShow : List (List ℕ) → Type 0
 IsShow words = (file : List ℕ) × (case_of words ≡ Some (Show file))
 
+abbrev pub IsCheck : List (List ℕ) → Type 0
+IsCheck words = (file : List ℕ) × (case_of words ≡ Some (Check file))
+
 abbrev pub IsPlay : List (List ℕ) → Type 0
 IsPlay words = (file : List ℕ) × (case_of words ≡ Some (Play file))
 
 -- the file of a case
 abbrev pub file_in : Case → List ℕ
 file_in (Show file) = file
+file_in (Check file) = file
 file_in (Play file) = file
 
 -- the second word

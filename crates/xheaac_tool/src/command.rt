@@ -4,7 +4,7 @@ ghost use Rattle.std.specs.Io.KnownBytes.{prepend_known};
 ghost use Rattle.outside.specs.Other.{all_but};
 ghost use Rattle.xheaac_tool.specs.Causes.{Caused};
 ghost use Rattle.xheaac_tool.specs.Ending.{DoesFile, OfFile, remains_of};
-ghost use Rattle.xheaac_tool.specs.Doing.{DoesSource, IsNotBegun, IsRefusedBy, Becomes, BecomesOf};
+ghost use Rattle.xheaac_tool.specs.Doing.{DoesSource, IsNotBegun, IsRefusedBy, Becomes, BecomesOf, outcome_of_close};
 
 use crate::frame_end::FrameEnd;
 use crate::outcome::Outcome;
@@ -53,14 +53,27 @@ fn stopped_by(alloc: Global, end: FrameEnd) -> Outcome
     }
 }
 
+/// How the command ends at the end of the stream.
+fn closed_by(answer: Result<(), DeviceFault>) -> Outcome
+    ensures { result ≡ outcome_of_close answer }
+{
+    match answer {
+        Ok(()) => Outcome::Done,
+        Err(DeviceFault::Failed) => Outcome::WriteFault,
+        Err(DeviceFault::Memory(error)) => Outcome::Memory(error),
+    }
+}
+
 /// Handles the frames of a source, one after another.
 pub fn run_source<T: Task, S: Source, K: Sink, C: Core>(
     alloc: Global,
+    task: &mut T,
     source: &mut S,
     out: &mut K,
     core: &mut C,
 ) -> Outcome
-    requires { (C.meaning core.old).fed ≤ 2 ^ 63 }
+    requires fed { (C.meaning core.old).fed ≤ 2 ^ 63 }
+    requires holds { T.Holds task.old [] }
     ensures does { DoesSource (T.job C.does).command (S.left source.old) (S.left source.new)
         (record {
           written_before = K.written out.old;
@@ -86,13 +99,13 @@ pub fn run_source<T: Task, S: Source, K: Sink, C: Core>(
     'frames: loop {
         let event = match reader.next(alloc, source) {
             Ok(Some(event)) => event,
-            Ok(None) => return Outcome::Done,
+            Ok(None) => return closed_by(task.close::<K, C>(alloc, out)),
             Err(fault) => return ended_by(alloc, fault),
         };
         let Some(mux) = reader.mux() else {
             unreachable!()
         };
-        match T::handle(alloc, &event, mux, out, core) {
+        match task.handle(alloc, &event, mux, out, core) {
             Ok(()) => {}
             Err(end) => return stopped_by(alloc, end),
         }
@@ -102,12 +115,14 @@ pub fn run_source<T: Task, S: Source, K: Sink, C: Core>(
 /// Handles the input of a shelf with that number.
 fn run_begun<T: Task, H: Shelf, K: Sink, C: Core>(
     alloc: Global,
+    task: &mut T,
     shelf: &mut H,
     id: u32,
     out: &mut K,
     core: &mut C,
 ) -> Outcome
     requires begun { id < H.begun shelf.old }
+    requires holds { T.Holds task.old [] }
     requires fed { (C.meaning core.old).fed ≤ 2 ^ 63 }
     ensures does { DoesSource (T.job C.does).command (H.left shelf.old id) (H.left shelf.new id)
         (record {
@@ -133,18 +148,20 @@ fn run_begun<T: Task, H: Shelf, K: Sink, C: Core>(
     ensures no_core { (T.job C.does).command.feeds ≡ false → result ≢ Outcome.CoreFault }
 {
     let mut source = FromShelf::new(shelf, id);
-    run_source::<T, _, _, _>(alloc, &mut source, out, core)
+    run_source(alloc, task, &mut source, out, core)
 }
 
 /// Handles the frames of the file with that name.
 pub fn run_file<T: Task, H: Shelf, K: Sink, C: Core>(
     alloc: Global,
+    task: &mut T,
     name: &str,
     shelf: &mut H,
     out: &mut K,
     core: &mut C,
 ) -> Outcome
     requires begun { H.begun shelf.old ≤ 2 ^ 31 }
+    requires holds { T.Holds task.old [] }
     requires fed { (C.meaning core.old).fed ≤ 2 ^ 63 }
     ensures does { (text : List ℕ) → H.bytes shelf.old name.now ≡ Some text →
         DoesFile (T.job C.does).command text (remains_of (H.begun shelf.old) (H.begun shelf.new) (H.left shelf.new (H.begun shelf.old)) (Some text))
@@ -187,5 +204,5 @@ pub fn run_file<T: Task, H: Shelf, K: Sink, C: Core>(
         Err(DeviceFault::Failed) => return Outcome::ReadFault,
         Err(DeviceFault::Memory(error)) => return Outcome::Memory(error),
     };
-    run_begun::<T, _, _, _>(alloc, shelf, id, out, core)
+    run_begun(alloc, task, shelf, id, out, core)
 }

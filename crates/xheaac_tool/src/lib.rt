@@ -1,13 +1,15 @@
 //! The commands of the program, over a shelf of files, two sinks and a core. [`run`] reads the words of
 //! the command line, does what they ask for, and answers the status. Its contract says, from the bytes
 //! of the file alone, what was written, what was noted and which status is answered; and where a device
-//! or the core fails, what was written before. [`do_play`] and [`do_show`] are the commands without
-//! their note, for a program that has its own.
+//! or the core fails, what was written before. [`do_show`], [`do_check`] and [`do_play`] are the
+//! commands without their note, for a program that has its own.
 //!
-//! Beneath them, `command` goes over the frames of a file for any `task`: `played` and `shown` are the
-//! tasks.
+//! Beneath them, `command` goes over the frames of a file for any `task`: `shown`, `checked` and
+//! `played` are the tasks.
 #![tactic(auto)]
 
+mod check;
+mod checked;
 mod command;
 mod frame_end;
 mod give;
@@ -21,6 +23,7 @@ mod top;
 mod unit_frame;
 mod words;
 
+pub use check::do_check;
 pub use outcome::Outcome;
 pub use play::do_play;
 pub use show::do_show;

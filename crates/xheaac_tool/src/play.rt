@@ -74,5 +74,5 @@ pub fn do_play<H: Shelf, K: Sink, C: Core>(
     ensures calm_writes { K.calm out.old → result ≢ Outcome.WriteFault }
     ensures calm_decodes { (text : List ℕ) → H.bytes shelf.old (file_of (texts words.now)) ≡ Some text → OfFile (playing C.does) (IsServed C.does) text → C.IsCalm core.old → result ≢ Outcome.CoreFault }
 {
-    run_file::<Play, _, _, _>(alloc, words[1].as_str(), shelf, out, core)
+    run_file(alloc, &mut Play, words[1].as_str(), shelf, out, core)
 }

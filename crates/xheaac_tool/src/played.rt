@@ -20,13 +20,14 @@ use crate::unit_frame::read_unit_frame;
 use au_stream::Event;
 use core_iface::{Core, CoreFault, Unit, push_sample_bytes};
 use latm::MuxConfig;
-use outside::Sink;
+use outside::{DeviceFault, Sink};
 use std::alloc::Global;
 use tool_text::{Place, Reason, Refusal};
 use usac_cfg::UsacConfig;
 use usac_frame::{Frame, payload_length, unit_of};
 
 /// The frames of `play`.
+#[derive(Drop)]
 pub struct Play;
 
 /// The refusal of a frame with that number, for that reason.
@@ -120,8 +121,11 @@ impl Task for Play {
 
     ghost serves = { IsServed };
 
+    ghost Holds = { λ task frames. Unit {0} };
+
     /// Plays a frame: its samples are one write.
     fn handle<K: Sink, C: Core>(
+        &mut self,
         alloc: Global,
         event: &Event,
         mux: &MuxConfig,
@@ -136,6 +140,13 @@ impl Task for Play {
         let mut bytes = Vec::new(alloc);
         push_sample_bytes(&samples, &mut bytes)?;
         give_all(out, &bytes)?;
+        Ok(())
+    }
+
+    /// Writes nothing.
+    fn close<K: Sink, C: Core>(&self, alloc: Global, out: &mut K) -> Result<(), DeviceFault> {
+        let _ = alloc;
+        let _ = out;
         Ok(())
     }
 

@@ -75,5 +75,5 @@ pub fn do_show<H: Shelf, K: Sink, C: Core>(
     ensures no_core { result ≢ Outcome.CoreFault }
     ensures untouched { core.new ≡ core.old }
 {
-    run_file::<Show, _, _, _>(alloc, words[1].as_str(), shelf, out, core)
+    run_file(alloc, &mut Show, words[1].as_str(), shelf, out, core)
 }

@@ -1,27 +1,32 @@
 // `show`, frame by frame: the lines of what a frame puts in force.
-ghost use Rattle.std.specs.Prelude.{◌≡◌, ◌++◌, length, OnOk, OnErr};
+ghost use Rattle.std.specs.Prelude.{◌≡◌, ◌≤◌, ◌++◌, length, IfOk, OnOk, OnErr};
 ghost use Rattle.std.specs.Io.KnownBytes.{append_known};
 ghost use Rattle.causes.specs.Counts.{HasCause};
 ghost use Rattle.latm.specs.MuxConfig.{IsWellFormed};
 ghost use Rattle.outside.specs.Answers.{has_failed, IsFailed};
+ghost use Rattle.usac_frame.specs.Frame.{FitsConfig};
+ghost use Rattle.usac_frame.specs.Units.{first_payload};
 ghost use Rattle.tool_text.specs.FrameLine.{frame_line};
 ghost use Rattle.xheaac_tool.specs.Handing.{WrotePart};
-ghost use Rattle.xheaac_tool.specs.Showing.{joined, mux_where};
+ghost use Rattle.xheaac_tool.specs.Showing.{joined, mux_where, payload_lines, preroll_where, frame_text};
 
 use crate::frame_end::FrameEnd;
 use crate::give::give_all;
 use crate::task::Task;
 use crate::unit_frame::read_unit_frame;
 use au_stream::Event;
-use bit_core::Octets;
+use bit_core::{Items, Octets};
 use core_iface::Core;
 use latm::MuxConfig;
 use outside::{DeviceFault, Sink};
-use std::alloc::Global;
-use tool_text::{frame_line, mux_lines};
-use usac_frame::Frame;
+use preroll::{PreFault, read_preroll};
+use std::alloc::{AllocError, Global};
+use tool_text::{bad_preroll_line, frame_line, mux_lines, preroll_lines};
+use usac_cfg::UsacConfig;
+use usac_frame::{Frame, first_payload, is_immediate};
 
 /// The frames of `show`.
+#[derive(Drop)]
 pub struct Show;
 
 /// Writes lines, one after another. A fault may come behind a part of them.
@@ -82,6 +87,47 @@ fn give_line<K: Sink>(
     give_all(out, line.as_slice())
 }
 
+/// The lines of the preroll that a payload is, or that of a payload that is none.
+fn payload_lines(alloc: Global, payload: &[u8]) -> Result<Items<Octets>, AllocError>
+    requires { length payload.now ≤ 16777216 }
+    ensures { IfOk result (λ lines. lines ≡ payload_lines payload.now) }
+{
+    match read_preroll(alloc, payload) {
+        Ok(preroll) => preroll_lines(alloc, &preroll),
+        Err(PreFault::Short { at }) => {
+            let mut lines = Items::new(alloc);
+            let line = bad_preroll_line(alloc, at)?;
+            lines.push(line)?;
+            Ok(lines)
+        }
+        Err(PreFault::Memory(error)) => Err(error),
+    }
+}
+
+/// Writes the lines of the preroll of a frame, where it is immediate. A fault may come behind a part of them.
+fn give_preroll<K: Sink>(
+    alloc: Global,
+    config: &UsacConfig,
+    frame: &Frame,
+    out: &mut K,
+) -> Result<(), DeviceFault>
+    requires { length (first_payload frame.now) ≤ 16777216 }
+    ensures ok { OnOk result (K.written out.new ≡ append_known (K.written out.old) (preroll_where config.now frame.now)) }
+    ensures err { OnErr result (WrotePart (K.written out.old) (K.written out.new) (preroll_where config.now frame.now)) }
+    ensures cause { HasCause (has_failed result) (K.faults out.old) (K.faults out.new) }
+    ensures calm { K.calm out.old → K.calm out.new }
+    ensures calm_answers { K.calm out.old → IsFailed result → ⊥ }
+{
+    if !is_immediate(config, frame) {
+        return Ok(());
+    }
+    let lines = match payload_lines(alloc, first_payload(frame)) {
+        Ok(lines) => lines,
+        Err(error) => return Err(DeviceFault::Memory(error)),
+    };
+    give_lines(out, lines.as_slice())
+}
+
 /// Writes the lines of a frame, each in one write. A fault may come behind a part of them.
 fn give_frame<K: Sink>(
     alloc: Global,
@@ -90,15 +136,17 @@ fn give_frame<K: Sink>(
     frame: &Frame,
     out: &mut K,
 ) -> Result<(), DeviceFault>
-    requires { IsWellFormed mux.now }
-    ensures ok { OnOk result (K.written out.new ≡ append_known (K.written out.old) (mux_where event.now.opens mux.now ++ frame_line event.now.frame (length event.now.au) frame.now)) }
-    ensures err { OnErr result (WrotePart (K.written out.old) (K.written out.new) (mux_where event.now.opens mux.now ++ frame_line event.now.frame (length event.now.au) frame.now)) }
+    requires well_formed { IsWellFormed mux.now }
+    requires fits { FitsConfig mux.now.asc.usac frame.now }
+    ensures ok { OnOk result (K.written out.new ≡ append_known (K.written out.old) (mux_where event.now.opens mux.now ++ frame_text mux.now.asc.usac event.now.frame (length event.now.au) frame.now)) }
+    ensures err { OnErr result (WrotePart (K.written out.old) (K.written out.new) (mux_where event.now.opens mux.now ++ frame_text mux.now.asc.usac event.now.frame (length event.now.au) frame.now)) }
     ensures cause { HasCause (has_failed result) (K.faults out.old) (K.faults out.new) }
     ensures calm { K.calm out.old → K.calm out.new }
     ensures calm_answers { K.calm out.old → IsFailed result → ⊥ }
 {
     give_mux(alloc, event.opens, mux, out)?;
-    give_line(alloc, event, frame, out)
+    give_line(alloc, event, frame, out)?;
+    give_preroll(alloc, &mux.asc.usac, frame, out)
 }
 
 impl Task for Show {
@@ -108,8 +156,11 @@ impl Task for Show {
 
     ghost serves = { λ d f. Unit {0} };
 
+    ghost Holds = { λ task frames. Unit {0} };
+
     /// Shows a frame: each line is one write.
     fn handle<K: Sink, C: Core>(
+        &mut self,
         alloc: Global,
         event: &Event,
         mux: &MuxConfig,
@@ -120,6 +171,13 @@ impl Task for Show {
         let config = &mux.asc.usac;
         let frame = read_unit_frame(alloc, event.frame, config, event.au.as_slice())?;
         give_frame(alloc, event, mux, &frame, out)?;
+        Ok(())
+    }
+
+    /// Writes nothing.
+    fn close<K: Sink, C: Core>(&self, alloc: Global, out: &mut K) -> Result<(), DeviceFault> {
+        let _ = alloc;
+        let _ = out;
         Ok(())
     }
 

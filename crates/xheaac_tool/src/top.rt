@@ -6,6 +6,7 @@ ghost use Rattle.xheaac_tool.specs.Texts.{usage_text};
 ghost use Rattle.xheaac_tool.specs.Ran.{Reports, NotesOf, CausesOf, RunsFile, command_of, IsCaseServed, status_of, text_of};
 ghost use Rattle.xheaac_tool.specs.Ending.{remains_of};
 
+use crate::check::do_check;
 use crate::give::give_all;
 use crate::outcome::Outcome;
 use crate::play::do_play;
@@ -151,6 +152,7 @@ pub fn run<H: Shelf, K: Sink, N: Sink, C: Core>(
     match read_words(words) {
         None => report(note, USAGE, 2),
         Some(Asked::Show { .. }) => finish(note, &do_show(alloc, words, shelf, out, core)),
+        Some(Asked::Check { .. }) => finish(note, &do_check(alloc, words, shelf, out, core)),
         Some(Asked::Play { .. }) => finish(note, &do_play(alloc, words, shelf, out, core)),
     }
 }

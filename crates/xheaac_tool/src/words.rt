@@ -8,6 +8,7 @@ ghost use Rattle.xheaac_tool.specs.Words.{case_of, texts};
 #[derive(Clone, Copy)]
 pub enum Asked<'a> {
     Show { file: &'a str },
+    Check { file: &'a str },
     Play { file: &'a str },
 }
 
@@ -17,6 +18,9 @@ pub fn read_words<'a>(words: &'a [String]) -> Option<Asked<'a>>
 {
     match words {
         [command, file] if command.as_str() == "show" => Some(Asked::Show {
+            file: file.as_str(),
+        }),
+        [command, file] if command.as_str() == "check" => Some(Asked::Check {
             file: file.as_str(),
         }),
         [command, file] if command.as_str() == "play" => Some(Asked::Play {

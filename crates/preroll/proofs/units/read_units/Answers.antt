@@ -12,5 +12,5 @@ returns-in_err-frame-clause-bad c =
     let k = c.loop-k.k in
     let unit = c.as_slice.result.now in
     let there : slice_get us k ≡ Some unit =
-        slice_get_read us (length us) k c.index-units-k.result refl c.loop-k-test.true c.index-units-k.is ∙ ap (λ (u : List ℕ). Some u) (sym c.as_slice.ensures) in
+    slice_get_read us (length us) k c.index-units-k.result refl c.loop-k-test.true c.index-units-k.is ∙ ap (λ (u : List ℕ). Some u) (sym c.as_slice.ensures) in
     rw (p.1, p.2) (λ want. let bad = c.in_err-frame.ensures.bad want in is_short c.args.config.now us c.loop-k.frames k unit bad.0 c.in_err-frame.field-0.0 c.loop-k.invariant there bad.1 bad.2 want)

@@ -10,7 +10,7 @@ invariant-frames g l =
     let sink = g.K.Sink in
     let core = g.C.Core in
     record {
-      so_far : GoesOn (g.T.Task.job core.does) (core.meaning l.initial.core) (core.meaning l.core) (source.left l.initial.source) (source.left l.source)
+      so_far : GoesOn (g.T.Task.job core.does) (g.T.Task.Holds l.task) (core.meaning l.initial.core) (core.meaning l.core) (source.left l.initial.source) (source.left l.source)
           (sink.written l.initial.out) (sink.written l.out) l.reader;
       few : l.reader.count ≤ most_bytes;
       source_faults : source.faults l.source ≡ source.faults l.initial.source;

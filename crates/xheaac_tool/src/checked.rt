@@ -1,0 +1,142 @@
+// `check`, frame by frame: what is judged of a frame, and what is counted.
+ghost use Rattle.std.specs.Prelude.{◌≡◌, ◌+◌, ◌≤◌, [], true, OnOk, IfErr};
+ghost use Rattle.layout.specs.Text.{digit};
+ghost use Rattle.usac_cfg.specs.UsacConfig.{IsWellFormed};
+ghost use Rattle.usac_frame.specs.Frame.{FitsConfig};
+ghost use Rattle.au_stream.specs.Script.{most_bytes};
+ghost use Rattle.xheaac_tool.specs.Counting.{HoldsCounts, AreFew, counted, EndsBy, KeepsRules, BreaksRule};
+
+use crate::frame_end::FrameEnd;
+use crate::give::give_all;
+use crate::task::Task;
+use crate::unit_frame::read_unit_frame;
+use au_stream::Event;
+use core_iface::Core;
+use latm::MuxConfig;
+use outside::{DeviceFault, Sink};
+use preroll::{CarryFault, carried};
+use std::alloc::{AllocError, Global};
+use tool_text::{carry_refusal, check_line};
+use usac_cfg::UsacConfig;
+use usac_frame::{Frame, is_immediate};
+
+/// The frames of `check`, as far as they were counted.
+#[derive(Drop)]
+pub struct Check {
+    frames: u64,
+    configurations: u64,
+    independent: u64,
+    immediate: u64,
+}
+
+/// One more, where that is so.
+fn plus(count: u64, one: bool) -> u64
+    requires { count ≤ most_bytes }
+    ensures { result ≡ count + digit one }
+{
+    if one { count + 1 } else { count }
+}
+
+impl Check {
+    /// No frames.
+    pub fn new() -> Check
+        ensures { HoldsCounts result [] }
+    {
+        Check {
+            frames: 0,
+            configurations: 0,
+            independent: 0,
+            immediate: 0,
+        }
+    }
+
+    /// Counts a frame.
+    fn count(&mut self, changed: bool, independent: bool, immediate: bool)
+        requires { AreFew self.old }
+        ensures { self.new ≡ counted changed independent immediate self.old }
+    {
+        self.frames += 1;
+        self.configurations = plus(self.configurations, changed);
+        self.independent = plus(self.independent, independent);
+        self.immediate = plus(self.immediate, immediate);
+    }
+}
+
+/// How the command ends at the frame with that number, whose preroll has this fault.
+fn ended_by(number: u64, fault: &CarryFault) -> FrameEnd
+    ensures { EndsBy number fault.now result }
+{
+    match carry_refusal(number, fault) {
+        Some(refusal) => FrameEnd::Refused(refusal),
+        None => FrameEnd::Memory(AllocError),
+    }
+}
+
+/// Judges the preroll of a frame that is immediate.
+fn judge(
+    alloc: Global,
+    number: u64,
+    config: &UsacConfig,
+    frame: &Frame,
+    immediate: bool,
+) -> Result<(), FrameEnd>
+    requires well_formed { IsWellFormed config.now }
+    requires fits { FitsConfig config.now frame.now }
+    ensures ok { OnOk result (immediate ≡ true → KeepsRules config.now frame.now) }
+    ensures err { IfErr result (λ end. (immediate ≡ true) × BreaksRule number config.now frame.now end) }
+{
+    if !immediate {
+        return Ok(());
+    }
+    match carried(alloc, config, frame) {
+        Ok(_) => Ok(()),
+        Err(fault) => Err(ended_by(number, &fault)),
+    }
+}
+
+impl Task for Check {
+    ghost use Rattle.xheaac_tool.specs.Checking.{check_job};
+    ghost use Rattle.xheaac_tool.specs.Counting.{HoldsCounts};
+
+    ghost job = { check_job };
+
+    ghost serves = { λ d f. Unit {0} };
+
+    ghost Holds = { HoldsCounts };
+
+    /// Judges a frame and counts it. Nothing is written.
+    fn handle<K: Sink, C: Core>(
+        &mut self,
+        alloc: Global,
+        event: &Event,
+        mux: &MuxConfig,
+        out: &mut K,
+        core: &mut C,
+    ) -> Result<(), FrameEnd> {
+        let _ = out;
+        let _ = core;
+        let config = &mux.asc.usac;
+        let frame = read_unit_frame(alloc, event.frame, config, event.au.as_slice())?;
+        let immediate = is_immediate(config, &frame);
+        judge(alloc, event.frame, config, &frame, immediate)?;
+        self.count(event.changed, frame.independent, immediate);
+        Ok(())
+    }
+
+    /// Writes the line of what was counted.
+    fn close<K: Sink, C: Core>(&self, alloc: Global, out: &mut K) -> Result<(), DeviceFault> {
+        let line = match check_line(
+            alloc,
+            self.frames,
+            self.configurations,
+            self.independent,
+            self.immediate,
+        ) {
+            Ok(line) => line,
+            Err(error) => return Err(DeviceFault::Memory(error)),
+        };
+        give_all(out, line.as_slice())
+    }
+
+    fn gives_output<C: Core>() {}
+}
