@@ -9,6 +9,8 @@ pub use failing_core::FailingCore;
 #[cfg(test)]
 mod cases;
 #[cfg(test)]
+mod checks;
+#[cfg(test)]
 mod leading;
 #[cfg(test)]
 mod refusals;

@@ -29,8 +29,11 @@ const FIRST_LINES: &str =
 const IMMEDIATE_LINES: &str =
     "asc index=3 rate=- channels=1 tail=0\nusac rate=48000 frame=1024 channels=1 elements=2 extensions=1 id=2\nelement 0 ext type=3 default=- frag=0 config=-\nelement 1 single tw=0 nf=1\nextension 0 type=7 bytes=0002\n";
 
+const SPLIT_LINES: &str =
+    "asc index=3 rate=- channels=1 tail=0\nusac rate=48000 frame=1024 channels=1 elements=2 extensions=0 id=-\nelement 0 ext type=3 default=2 frag=1 config=-\nelement 1 single tw=0 nf=1\n";
+
 const IMMEDIATE_FRAMES: &str =
-    "frame 0 independent=1 bytes=1 leading=-\nframe 1 independent=0 bytes=1 leading=-\nframe 2 independent=0 bytes=1 leading=-\nframe 3 independent=1 bytes=1 leading=-\nframe 4 independent=1 bytes=15 leading=12\nframe 5 independent=0 bytes=1 leading=-\nframe 6 independent=0 bytes=1 leading=-\nframe 7 independent=0 bytes=1 leading=-\n";
+    "frame 0 independent=1 bytes=1 leading=-\nframe 1 independent=0 bytes=1 leading=-\nframe 2 independent=0 bytes=1 leading=-\nframe 3 independent=1 bytes=1 leading=-\nframe 4 independent=1 bytes=15 leading=12\npreroll config=8 fade=0 reserved=0 units=1 tail=0\nunit 0 81\nframe 5 independent=0 bytes=1 leading=-\nframe 6 independent=0 bytes=1 leading=-\nframe 7 independent=0 bytes=1 leading=-\n";
 
 #[test]
 fn shows_streams(rt: HostRuntime) -> Result<(), Fail> {
@@ -38,7 +41,7 @@ fn shows_streams(rt: HostRuntime) -> Result<(), Fail> {
         words: &["show", "in"],
         ..ended(0, 0, 0)
     };
-    let rows: [(&[u8], &str, &[&str]); 9] = [
+    let rows: [(&[u8], &str, &[&str]); 11] = [
         (
             DECLARED,
             "",
@@ -52,6 +55,26 @@ fn shows_streams(rt: HostRuntime) -> Result<(), Fail> {
             IMMEDIATE,
             "",
             &[MUX_LINE, IMMEDIATE_LINES, IMMEDIATE_FRAMES],
+        ),
+        // its preroll has one byte less
+        (
+            b"\x56\xE0\x1E\x20\x00\xF9\x46\x23\x21\x1C\xC0\x18\xE4\x00\x04\x3F\xC0\xFC\x17\x03\x21\x1C\xC0\x18\xE4\x00\x04\x02\x00\x03\x03\x80\x00",
+            "",
+            &[
+                MUX_LINE,
+                IMMEDIATE_LINES,
+                "frame 0 independent=1 bytes=15 leading=11\npreroll bad bit=88\n",
+            ],
+        ),
+        // its preroll does not begin in the frame
+        (
+            b"\x56\xE0\x10\x20\x00\xF9\x46\x23\x21\x1C\xC2\x03\x10\xFF\x00\xFB\x55\x77\x40",
+            "",
+            &[
+                MUX_LINE,
+                SPLIT_LINES,
+                "frame 0 independent=1 bytes=3 leading=2\n",
+            ],
         ),
         (TWO_SLOTS, "", &[TWO_SLOTS_LINE, PLAIN_LINES, FIRST_LINES]),
         (VERSION_1, "", &[VERSION_1_LINES, FIRST_LINE]),
