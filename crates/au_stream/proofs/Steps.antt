@@ -19,10 +19,10 @@ use Rattle.au_stream.specs.declared.event.Event.{Event}
 use Rattle.au_stream.specs.declared.fault.StreamFault.{StreamFault}
 use Rattle.au_stream.specs.declared.fault.StreamFault.TheVariants.{ReadFault, TooLarge, Loas, Mux, Memory}
 use Rattle.au_stream.specs.Elements.{IsElement, Carries, in_force_behind}
-use Rattle.au_stream.specs.Frames.{Frame, config_of, frames_under, frames_from, last_of, IsChange, IsSame, TellsChange}
+use Rattle.au_stream.specs.Frames.{Frame, config_of, frames_under, frames_from, last_of, TellsChange}
 use Rattle.au_stream.specs.Script.{most_bytes, Mark, End, SyncLost, BadElement, Truncated, HasFrames, IsScript, IsOpen}
 use Rattle.au_stream.specs.Reading.{Reading, pending_frames, KnowsChange, Holds, HasRead}
-use Rattle.au_stream.specs.Giving.{Changes, Keeps, Tells, refused_element, TookElement, TakesElement, Gave, weight}
+use Rattle.au_stream.specs.Giving.{Tells, refused_element, TookElement, TakesElement, Gave, weight}
 use Rattle.au_stream.specs.Taking.{Seen, Takes}
 use Rattle.au_stream.specs.Events.{IsEvent, Answers, GivenBy, Reads}
 use Rattle.au_stream.proofs.Counting.{some_in_force, slots_fit}

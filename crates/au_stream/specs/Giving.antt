@@ -1,5 +1,5 @@
 -- What a reader does with one element.
-use Rattle.std.specs.Prelude.{◌≡◌, ◌≢◌, ℕ, ◌+◌, ◌-◌, ◌<◌, ◌≤◌, Bool, false, List, ◌∷◌, length, take, drop, Option, Some, None, is_some, Result, Ok, Err, IsTrue, ◌↔◌}
+use Rattle.std.specs.Prelude.{◌≡◌, ◌≢◌, ℕ, ◌+◌, ◌-◌, ◌<◌, ◌≤◌, Bool, false, List, ◌∷◌, length, take, drop, Option, Some, None, is_some, Result, Ok, Err, IsTrue}
 use Rattle.layout.specs.Text.{bits_of}
 use Rattle.loas.specs.Framer.{past_frame, pushed}
 use Rattle.latm.specs.declared.fault.MuxFault.{MuxFault}

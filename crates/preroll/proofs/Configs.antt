@@ -1,5 +1,5 @@
 -- Bytes that are a configuration and at most 7 bits behind it are one at most, and what a reader says of them.
-use Rattle.std.proofs.Common.{◌≡◌, ℕ, ◌<◌, ◌≤◌, Bool, true, false, List, [], ◌++◌, length, Ok, Err, refl, sym, ap, ◌∙◌, arith}
+use Rattle.std.proofs.Common.{◌≡◌, ℕ, ◌<◌, ◌≤◌, Bool, true, false, List, ◌++◌, length, Ok, Err, refl, sym, ap, ◌∙◌, arith}
 use Rattle.layout.specs.Text.{num, bits_of}
 use Rattle.layout.specs.Reader.{Reader, left}
 use Rattle.layout.specs.Reading.{ReadsUnless}
@@ -14,7 +14,7 @@ use Rattle.usac_cfg.specs.Spelling.{usac_config}
 use Rattle.usac_cfg.specs.UsacExact.{usac_config_exact}
 use Rattle.preroll.specs.declared.fault.CarryFault.TheVariants.{BadConfig}
 use Rattle.preroll.specs.Faults.{from_config, is_want}
-use Rattle.preroll.specs.Carried.{IsConfigIn, IsNoConfig, IsOtherConfig}
+use Rattle.preroll.specs.Carried.{IsConfigIn}
 
 pub one_config : (bytes : List ℕ) (c d : UsacConfig) → IsConfigIn bytes c → IsConfigIn bytes d → c ≡ d
 one_config bytes c d a b = (prefix_free usac_config usac_config_exact c d a.behind b.behind a.fits b.fits (sym a.spelled ∙ b.spelled)).0

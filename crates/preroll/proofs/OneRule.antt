@@ -1,5 +1,5 @@
 -- The first fault is one.
-use Rattle.std.proofs.Common.{◌≡◌, ℕ, zero, suc, ◌<◌, ◌≤◌, Bool, List, [], ◌∷◌, take, Some, refl, sym, ap, subst, ◌∙◌, arith, inl, inr}
+use Rattle.std.proofs.Common.{◌≡◌, ℕ, zero, suc, ◌<◌, Bool, List, [], ◌∷◌, take, Some, sym, ap, subst, ◌∙◌, arith, inl, inr}
 use Rattle.std.specs.Prelude.{map, slice_get}
 use Rattle.std.specs.List.{AllByRecursion}
 use Rattle.std.proofs.lemmas.Bool.{cases_lt}
@@ -13,15 +13,14 @@ use Rattle.usac_frame.specs.AccessUnit.{unit_in}
 use Rattle.usac_frame.specs.Frame.{FrameFaults}
 use Rattle.usac_frame.specs.FrameExact.{frame_of_is, decided as frames_decided}
 use Rattle.usac_frame.specs.Units.{UnitValue, first_payload}
-use Rattle.preroll.specs.declared.preroll.PreRoll.{PreRoll}
 use Rattle.preroll.specs.declared.fault.PreFault.{PreFault}
 use Rattle.preroll.specs.declared.fault.PreFault.TheVariants as faults
 use Rattle.preroll.specs.declared.fault.CarryFault.{CarryFault}
 use Rattle.preroll.specs.declared.fault.CarryFault.TheVariants.{NotImmediate, Split, BadPreroll, BadConfig, ConfigDiffers, BadUnit, Nested, FirstDependent, Memory}
 use Rattle.preroll.specs.PreRollExact.{decided}
-use Rattle.preroll.specs.Carried.{HasPreRoll, IsAFrame, IsShortUnit, preroll_bytes, IsNestedUnit, Breaks, rule, IsFirst, Carries}
+use Rattle.preroll.specs.Carried.{IsAFrame, IsShortUnit, preroll_bytes, IsNestedUnit, Breaks, rule, IsFirst, Carries}
 use Rattle.preroll.specs.Laws.{IsJudgedOnce}
-use Rattle.preroll.proofs.Rules.{unit_at, bit_at, fault_of, is_of_rule, of_preroll}
+use Rattle.preroll.proofs.Rules.{unit_at, bit_at, is_of_rule, of_preroll}
 
 -- an entry before the n-th
 before_get : {A : Type 0} (P : A → Type 0) (xs : List A) (k n : ℕ) (x : A) → AllByRecursion P (take n xs) → k < n → slice_get xs k ≡ Some x → P x

@@ -1,5 +1,5 @@
 -- The rules that a preroll keeps, one after another, and the faults of those that it breaks.
-use Rattle.std.proofs.Common.{◌≡◌, ℕ, zero, suc, ◌+◌, ◌<◌, ◌≤◌, Bool, true, false, List, [], ◌∷◌, length, Some, Ok, Err, refl, sym, ap, subst, ◌∙◌, arith}
+use Rattle.std.proofs.Common.{◌≡◌, ℕ, zero, suc, true, false, List, [], ◌∷◌, Some, refl, sym, ap, subst, ◌∙◌, arith}
 use Rattle.std.specs.Prelude.{map, slice_get}
 use Rattle.std.specs.List.{AllByRecursion}
 use Rattle.layout.specs.Text.{bits_of}
@@ -7,7 +7,6 @@ use Rattle.layout.proofs.Layouts.{some_is}
 use Rattle.usac_cfg.specs.declared.usac_config.UsacConfig.{UsacConfig}
 use Rattle.usac_frame.specs.declared.fault.FrameFault.TheVariants as frames
 use Rattle.usac_frame.specs.declared.frame.Frame.{Frame}
-use Rattle.usac_frame.specs.AccessUnit.{unit_in}
 use Rattle.usac_frame.specs.FrameExact.{frame_of_is, decided as frames_decided}
 use Rattle.usac_frame.specs.Units.{UnitValue, unit_of, payload_length, first_payload, is_whole}
 use Rattle.preroll.specs.declared.preroll.PreRoll.{PreRoll}
@@ -16,7 +15,7 @@ use Rattle.preroll.specs.declared.fault.PreFault.TheVariants as faults
 use Rattle.preroll.specs.declared.fault.CarryFault.{CarryFault}
 use Rattle.preroll.specs.declared.fault.CarryFault.TheVariants.{NotImmediate, Split, BadPreroll, BadConfig, ConfigDiffers, BadUnit, Nested, FirstDependent, Memory}
 use Rattle.preroll.specs.Faults.{is_memory, is_want, from_preroll}
-use Rattle.preroll.specs.PreRoll.{preroll, preroll_text, preroll_of, PreRollFaults, IsWellFormed}
+use Rattle.preroll.specs.PreRoll.{preroll_text, preroll_of, PreRollFaults, IsWellFormed}
 use Rattle.preroll.specs.PreRollExact.{decided, preroll_of_is}
 use Rattle.preroll.specs.Carried.{IsNoConfig, IsOtherConfig, IsAFrame, IsShortUnit, IsNestedUnit, starts_independent, preroll_bytes, IsFirst, Carries}
 use Rattle.preroll.specs.Steps.{IsOpened, AreFrames, AreCarried, IsConfigFault, IsUnitFault, HaveNoPreRoll, IsNestedFault, first_independent}

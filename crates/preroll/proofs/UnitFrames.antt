@@ -1,5 +1,5 @@
 -- The access units of a preroll and the frames that they are.
-use Rattle.std.proofs.Common.{◌≡◌, ℕ, zero, suc, ◌+◌, ◌<◌, ◌≤◌, Bool, true, false, List, [], ◌∷◌, ◌++◌, length, take, Option, Some, None, refl, sym, ap, subst, ◌∙◌, arith}
+use Rattle.std.proofs.Common.{◌≡◌, ℕ, zero, suc, ◌<◌, true, false, List, [], ◌∷◌, length, take, Option, Some, None, refl, sym, ap, subst, ◌∙◌}
 use Rattle.std.specs.Prelude.{map, slice_get}
 use Rattle.std.specs.List.{AllByRecursion}
 use Rattle.std.specs.Option.{option_map_or}
@@ -12,12 +12,11 @@ use Rattle.usac_frame.specs.declared.frame.Frame.{Frame}
 use Rattle.usac_frame.specs.AccessUnit.{frame_of, unit_in, unit_where}
 use Rattle.usac_frame.specs.Frame.{FitsConfig, FrameFaults}
 use Rattle.usac_frame.specs.FrameExact.{frame_of_is}
-use Rattle.usac_frame.specs.Units.{UnitValue, unit_of, payload_length}
+use Rattle.usac_frame.specs.Units.{unit_of, payload_length}
 use Rattle.preroll.specs.declared.fault.CarryFault.{CarryFault}
-use Rattle.preroll.specs.declared.fault.CarryFault.TheVariants.{BadUnit, Nested}
 use Rattle.preroll.specs.Faults.{of_unit, is_want}
-use Rattle.preroll.specs.Carried.{IsAFrame, IsShortUnit, preroll_bytes, IsNestedUnit, starts_independent}
-use Rattle.preroll.specs.Steps.{AreFrames, IsUnitFault, HaveNoPreRoll, IsNestedFault, first_independent}
+use Rattle.preroll.specs.Carried.{IsAFrame, preroll_bytes, IsNestedUnit, starts_independent}
+use Rattle.preroll.specs.Steps.{AreFrames, IsUnitFault, HaveNoPreRoll, first_independent}
 
 -- the first of them, and the others
 abbrev first_in : List (Option Frame) → Option Frame

@@ -1,6 +1,6 @@
 -- The units that the preroll of a frame carries, and the rules that it may break (ISO/IEC 23003-3, AudioPreRoll). That a
 -- carried access unit has no preroll of its own and that the order of the rules counts is this project's own.
-use Rattle.std.specs.Prelude.{◌≡◌, ℕ, ◌<◌, ◌≤◌, Bool, true, false, List, [], ◌∷◌, ◌++◌, length, take, map, slice_get, Option, Some}
+use Rattle.std.specs.Prelude.{◌≡◌, ℕ, ◌<◌, ◌≤◌, Bool, false, List, [], ◌∷◌, ◌++◌, length, take, map, slice_get, Some}
 use Rattle.std.specs.List.{AllByRecursion}
 use Rattle.std.specs.Option.{option_map_or}
 use Rattle.layout.specs.Text.{bits_of}

@@ -1,5 +1,5 @@
 -- A preroll is read exactly, and what follows from it.
-use Rattle.std.proofs.Common.{◌≡◌, ℕ, ◌-◌, ◌%◌, Bool, false, List, [], ◌∷◌, ◌++◌, length, replicate, Some, Result, Ok, Err, refl, ap, subst, ◌∙◌, append_assoc, arith}
+use Rattle.std.proofs.Common.{◌≡◌, ℕ, ◌-◌, ◌%◌, false, List, ◌++◌, length, replicate, Some, Result, Ok, Err, refl, ap, subst, ◌∙◌, append_assoc, arith}
 use Rattle.layout.specs.Exact.{IsExact, IsExactToEnd}
 use Rattle.layout.specs.Reader.{Reader}
 use Rattle.layout.specs.Text.{bits_of}
@@ -13,7 +13,7 @@ use Rattle.esc_value.specs.EscapedExact.{escaped_exact}
 use Rattle.preroll.specs.declared.fault.PreFault.{PreFault}
 use Rattle.preroll.specs.declared.preroll.PreRoll.{PreRoll}
 use Rattle.preroll.specs.Faults.{from_short, from_read}
-use Rattle.preroll.specs.PreRoll.{number, flag, run_of_bytes, counted_bytes, units, HasBytes, IsWellFormed, preroll, preroll_text, fault_read, PreRollFaults}
+use Rattle.preroll.specs.PreRoll.{flag, counted_bytes, units, HasBytes, IsWellFormed, preroll, preroll_text, fault_read, PreRollFaults}
 use Rattle.preroll.specs.Laws.{IsSpelledOnce, IsDecided, IsPreRollOf, IsFaultOf, with_zeros, IsReadBack}
 
 flag-exact : IsExact flag

@@ -36,7 +36,7 @@ use Rattle.xheaac_tool.specs.Reading.{ReadsUnit, IsJudgement}
 use Rattle.xheaac_tool.specs.OneFrame.{Handles, DidFrame, Closed}
 use Rattle.xheaac_tool.specs.Checking.{ClosesCounted, CheckRefuses, TooShort, Uncarried, how_many, flag_of, is_independent, is_play_out, check_job}
 use Rattle.xheaac_tool.specs.Counting.{HoldsCounts, AreFew, counted, EndsBy, KeepsRules, BreaksRule}
-use Rattle.xheaac_tool.proofs.Lines.{not_short, too_short}
+use Rattle.xheaac_tool.proofs.Lines.{frame_is, not_short, too_short}
 use Rattle.xheaac_tool.proofs.Going.{append-none}
 
 -- ---- counts
@@ -53,14 +53,10 @@ many_few : {A : Type 0} (p : A → Bool) (xs : List A) → how_many p xs ≤ len
 many_few p [] = omega arith
 many_few p (x ∷ xs) = omega (arith, one_at_most (p x), many_few p xs)
 
--- the frame that was read
-frame_here : (f : Frame) (config : UsacConfig) (au : List ℕ) (g : UsacFrame) → config ≡ config_of f → au ≡ f.au → IsFrame config au g → IsFrame (config_of f) f.au g
-frame_here f config au g c a is = subst (λ (x : List ℕ). IsFrame (config_of f) x g) a (subst (λ (x : UsacConfig). IsFrame x au g) c is)
-
 pub counts_more : (c now : Check) (before : List Frame) (f : Frame) (event : Event) (config : UsacConfig) (g : UsacFrame) → IsEvent before f event → config ≡ config_of f → IsFrame config event.au g → now ≡ counted event.changed g.independent (is_immediate config g) c
     → HoldsCounts c before → HoldsCounts now (before ++ f ∷ [])
 counts_more c now before f event config g e same is made h =
-    let found = frame_of_is.found (config_of f) f.au g (frame_here f config event.au g same e.au is) in
+    let found = frame_of_is.found (config_of f) f.au g (frame_is f config event.au g same e.au is) in
     let flag : is_independent f ≡ g.independent = ap (λ (o : Option UsacFrame). option_map_or flag_of o false) found in
     let immediate : is_play_out f ≡ is_immediate config g = ap (λ (o : Option UsacFrame). option_map_or (is_immediate (config_of f)) o false) found ∙ ap (λ (x : UsacConfig). is_immediate x g) (sym same) in
     let more = split_more before h.segments f event.changed h.split e.changed in
@@ -99,7 +95,7 @@ breaks_rule number c g e (ends.Memory a) first ended = tt
 pub check_takes : (before : List Frame) (f : Frame) (config : UsacConfig) (au : List ℕ) (g : UsacFrame) → config ≡ config_of f → au ≡ f.au → IsFrame config au g → (is_immediate config g ≡ true → KeepsRules config g) → (r : Refusal) → CheckRefuses before f r → ⊥
 check_takes before f config au g c a is keeps r (TooShort short) = not_short before f config au g c a is r short
 check_takes before f config au g c a is keeps r (Uncarried h here immediate e first why) =
-    let i = frame_here f config au g c a is in
+    let i = frame_is f config au g c a is in
     let same : h ≡ g = spelled_once (config_of f) h g here.fits i.fits (sym here.spelled ∙ i.spelled) in
     let now : is_immediate config g ≡ true = ap (λ (x : UsacConfig). is_immediate x g) c ∙ sym (ap (is_immediate (config_of f)) same) ∙ immediate in
     let there : IsFirst config g e = subst (λ (x : UsacConfig). IsFirst x g e) (sym c) (subst (λ (x : UsacFrame). IsFirst (config_of f) x e) same first) in
@@ -116,7 +112,7 @@ check_broken d before f m w config au number g (ends.Refused r) c a n is bad =
     let rule = bad.1 in
     let first : IsFirst (config_of f) g rule.0 = subst (λ (x : UsacConfig). IsFirst x g rule.0) c rule.1 in
     let immediate : is_immediate (config_of f) g ≡ true = ap (λ (x : UsacConfig). is_immediate x g) (sym c) ∙ bad.0 in
-    (Uncarried g (frame_here f config au g c a is) immediate rule.0 first (ap (λ (k : ℕ). refusal_of_carry k rule.0) (sym n) ∙ rule.2), refl, refl)
+    (Uncarried g (frame_is f config au g c a is) immediate rule.0 first (ap (λ (k : ℕ). refusal_of_carry k rule.0) (sym n) ∙ rule.2), refl, refl)
 check_broken d before f m w config au number g ends.WriteFault c a n is bad = absurd bad.1
 check_broken d before f m w config au number g ends.CoreFault c a n is bad = absurd bad.1
 check_broken d before f m w config au number g (ends.Memory x) c a n is bad = inr (record { fed = omega arith; written = refl })

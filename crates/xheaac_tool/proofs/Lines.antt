@@ -106,7 +106,8 @@ text_is number f bytes opens mux event_number g o m n b found =
     ∙ ap (λ (x : ℕ). mux_where f.opens f.mux ++ frame_text (config_of f) number x g) b
     ∙ ap (λ (x : Option UsacFrame). mux_where f.opens f.mux ++ text_where (config_of f) number (length f.au) x) (sym found)
 
-frame_is : (f : Frame) (config : UsacConfig) (au : List ℕ) (g : UsacFrame) → config ≡ config_of f → au ≡ f.au → IsFrame config au g → IsFrame (config_of f) f.au g
+-- the frame that was read, of the access unit of a frame
+pub frame_is : (f : Frame) (config : UsacConfig) (au : List ℕ) (g : UsacFrame) → config ≡ config_of f → au ≡ f.au → IsFrame config au g → IsFrame (config_of f) f.au g
 frame_is f config au g c a is = subst (λ (x : List ℕ). IsFrame (config_of f) x g) a (subst (λ (x : UsacConfig). IsFrame x au g) c is)
 
 -- no frame is too short

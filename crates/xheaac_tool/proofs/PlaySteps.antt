@@ -14,7 +14,7 @@ use Rattle.au_stream.specs.Events.{IsEvent}
 use Rattle.xheaac_tool.specs.declared.frame_end.FrameEnd.{FrameEnd}
 use Rattle.xheaac_tool.specs.declared.frame_end.FrameEnd.TheVariants as ends
 use Rattle.xheaac_tool.specs.Reading.{ReadsUnit, IsJudgement, Judges}
-use Rattle.xheaac_tool.proofs.Lines.{not_short, too_short}
+use Rattle.xheaac_tool.proofs.Lines.{frame_is, not_short, too_short}
 use Rattle.core_iface.specs.Decoding.{Definitions}
 use Rattle.core_iface.specs.Answering.{Running, Meaning, stepped, emitted}
 use Rattle.core_iface.specs.Samples.{sample_bytes}
@@ -100,13 +100,10 @@ unread before f event config ends.WriteFault e c goes_on bad = absurd bad
 unread before f event config ends.CoreFault e c goes_on bad = absurd bad
 unread before f event config (ends.Memory x) e c goes_on bad = tt
 
-frame_here : (f : Frame) (config : UsacConfig) (au : List ℕ) (g : UsacFrame) → config ≡ config_of f → au ≡ f.au → IsFrame config au g → IsFrame (config_of f) f.au g
-frame_here f config au g c a is = subst (λ (x : List ℕ). IsFrame (config_of f) x g) a (subst (λ (x : UsacConfig). IsFrame x au g) c is)
-
 -- it is no start
 pub no_start_here : (before : List Frame) (f : Frame) (event : Event) (config : UsacConfig) (g : UsacFrame) (r : Refusal) → IsEvent before f event → config ≡ config_of f → event.frame ≡ 0 → IsFrame config event.au g → IsNoStart config g r → PlayRefuses before f r
 no_start_here before f event config g r e c zero_is is bad =
-    NoStart (first_frame before (sym e.number ∙ zero_is)) g (frame_here f config event.au g c e.au is) (subst (λ (x : UsacConfig). IsNoStart x g r) c bad)
+    NoStart (first_frame before (sym e.number ∙ zero_is)) g (frame_is f config event.au g c e.au is) (subst (λ (x : UsacConfig). IsNoStart x g r) c bad)
 
 -- it is taken
 pub taken : (before : List Frame) (f : Frame) (event : Event) (config : UsacConfig) (g : UsacFrame) → IsEvent before f event → config ≡ config_of f → (IsLater before f → ⊥) → IsFrame config event.au g → (event.frame ≡ 0 → (r : Refusal) → IsNoStart config g r → ⊥)
@@ -114,7 +111,7 @@ pub taken : (before : List Frame) (f : Frame) (event : Event) (config : UsacConf
 taken before f event config g e c goes_on is start r (Changes later why) = goes_on later
 taken before f event config g e c goes_on is start r (TooShort same short) = not_short before f config event.au g c e.au is r short
 taken before f event config g e c goes_on is start r (NoStart first h here bad) =
-    let i = frame_here f config event.au g c e.au is in
+    let i = frame_is f config event.au g c e.au is in
     let same : g ≡ h = spelled_once (config_of f) g h i.fits here.fits (sym i.spelled ∙ here.spelled) in
     let none : event.frame ≡ 0 = e.number ∙ ap (λ (x : List Frame). length x) first in
     start none r (subst (λ (x : UsacFrame). IsNoStart config x r) (sym same) (subst (λ (x : UsacConfig). IsNoStart x h r) (sym c) bad))
@@ -129,7 +126,7 @@ play_untaken d before f m w (ends.Memory x) j = inr (record { fed = omega arith;
 -- the unit of a frame that was read
 pub unit_here : (f : Frame) (config : UsacConfig) (au : List ℕ) (g : UsacFrame) (unit : UnitValue) → config ≡ config_of f → au ≡ f.au → IsFrame config au g → unit ≡ unit_of config g → unit ≡ unit_in (config_of f) f.au
 unit_here f config au g unit c a is made =
-    let found = frame_of_is.found (config_of f) f.au g (frame_here f config au g c a is) in
+    let found = frame_of_is.found (config_of f) f.au g (frame_is f config au g c a is) in
     made ∙ ap (λ (x : UsacConfig). unit_of x g) c ∙ ap (λ (o : Option UsacFrame). unit_where (config_of f) o) (sym found)
 
 -- a refusal of a frame is no fault of a device or of the core

@@ -121,8 +121,8 @@ refused_first c text fs r (inr x) = all_first c text fs x.mark (record { script 
 first_all : (c : Command) (text : List ℕ) (fs : List Frame) (t : Traces) → TakesFirst c text fs → WroteAll c fs t → WroteSome c text fs t
 first_all c text fs t first w = inl (first, all_front c fs t w)
 
-closed_all : (c : Command) (text : List ℕ) (fs : List Frame) (t : Traces) → Passes c text fs End → WroteClosed c fs t → WroteSome c text fs t
-closed_all c text fs t passes w =
+all_closed : (c : Command) (text : List ℕ) (fs : List Frame) (t : Traces) → Passes c text fs End → WroteClosed c fs t → WroteSome c text fs t
+all_closed c text fs t passes w =
     let xs = c.output fs ++ w.closing in
     inr (
       passes,
@@ -131,7 +131,7 @@ closed_all c text fs t passes w =
 
 -- however the command ended, a front of the output was written
 front_of : (c : Command) (text : List ℕ) (remains : Option (List ℕ)) (t : Traces) (o : Outcome) → DoesFile c text remains t o → Front c text t o
-front_of c text remains t is.Done p = let s = p.ends in record { frames = s.0; wrote = closed_all c text s.0 t s.1 s.2; noted = inr refl }
+front_of c text remains t is.Done p = let s = p.ends in record { frames = s.0; wrote = all_closed c text s.0 t s.1 s.2; noted = inr refl }
 front_of c text remains t (is.Refused words) p =
     let s = p.ends in
     record { frames = s.0; wrote = first_all c text s.0 t (refused_first c text s.0 s.1 s.2) s.4; noted = inl (inr (inr (inr (inr (inr (s.1, s.2, s.3)))))) }

@@ -17,8 +17,9 @@ use std::alloc::Global;
 /// The command `play FILE`: decodes each frame of a file and writes its samples, two bytes each, the least significant
 /// first, channels interleaved by time.
 ///
-/// The file is a LOAS stream (ISO/IEC 14496-3, AudioSyncStream) in the canonical mux of one configuration without a leading
-/// extension element. The frames before the first other one are played, and then the command refuses that frame.
+/// The file is a LOAS stream (ISO/IEC 14496-3, AudioSyncStream). It is refused where the stream is, at a frame that is too
+/// short, at a first frame that is not independent, and, so far, at a first frame with a preroll and where another UsacConfig
+/// (ISO/IEC 23003-3) begins. The frames before that were played.
 pub fn do_play<H: Shelf, K: Sink, C: Core>(
     alloc: Global,
     words: &[String],

@@ -14,11 +14,12 @@ use core_iface::Core;
 use outside::{Shelf, Sink};
 use std::alloc::Global;
 
-/// The command `show FILE`: writes what each StreamMuxConfig of a file says, a line at a time.
+/// The command `show FILE`: writes what each StreamMuxConfig of a file says, and what stands at the front of each frame, a line
+/// at a time.
 ///
-/// The file is a LOAS stream (ISO/IEC 14496-3, AudioSyncStream) in the canonical mux; a configuration may stand in any of
-/// its frames. The frames before the first other one are shown, and then the command refuses that frame. The core is left as
-/// it was.
+/// The file is a LOAS stream (ISO/IEC 14496-3, AudioSyncStream). It is refused where the stream is, and at a frame that is too
+/// short (ISO/IEC 23003-3, UsacFrame). The frames before that were shown. A preroll that is none is shown, and not refused. The
+/// core is left as it was.
 pub fn do_show<H: Shelf, K: Sink, C: Core>(
     alloc: Global,
     words: &[String],

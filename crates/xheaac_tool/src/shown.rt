@@ -1,4 +1,4 @@
-// `show`, frame by frame: the lines of what a frame puts in force.
+// `show`, frame by frame: the lines of what a frame puts in force, of the frame, and of its preroll.
 ghost use Rattle.std.specs.Prelude.{◌≡◌, ◌≤◌, ◌++◌, length, IfOk, OnOk, OnErr};
 ghost use Rattle.std.specs.Io.KnownBytes.{append_known};
 ghost use Rattle.causes.specs.Counts.{HasCause};

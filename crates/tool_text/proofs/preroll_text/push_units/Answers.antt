@@ -1,4 +1,4 @@
-use Rattle.std.proofs.Common.{[], ◌∷◌, refl, sym, ◌∙◌}
+use Rattle.std.proofs.Common.{[], ◌∷◌, refl, ◌∙◌}
 use Rattle.tool_text.specs.PreRollLines.{unit_line, units_from}
 use Rattle.tool_text.proofs.Numbered.{one_more, at_end}
 use Rattle.tool_text.proofs.preroll_text.push_units.Goals as goal
