@@ -123,7 +123,11 @@ fn checks_streams(rt: HostRuntime) -> Result<(), Fail> {
     Ok(())
 }
 
-fn check_refused(rt: &(impl Abort + AllocGlobal), bytes: &[u8], note: &str) -> Result<(), Fail> {
+fn check_refused<'a>(
+    rt: &(impl Abort + AllocGlobal),
+    bytes: &'a [u8],
+    note: &'a str,
+) -> Result<(), Fail> {
     let case = Case {
         bytes,
         note,
