@@ -16,6 +16,8 @@ mod mux_line;
 mod parts;
 mod preroll_text;
 mod refusal;
+#[cfg(test)]
+mod refusal_tests;
 mod refusal_text;
 mod setting_lines;
 #[cfg(test)]

@@ -3,18 +3,16 @@ ghost use Rattle.usac_cfg.specs.UsacConfig.{IsWellFormed as IsUsacWellFormed};
 ghost use Rattle.asc.specs.Asc.{IsWellFormed};
 
 use crate::{
-    Place, Reason, Refusal, bad_preroll_line, carry_refusal, check_line, configuration_lines,
-    frame_line, loas_refusal, mux_lines, mux_refusal, preroll_lines, refusal_line,
+    bad_preroll_line, check_line, configuration_lines, frame_line, mux_lines, preroll_lines,
 };
-use asc::{Asc, AscFault};
+use asc::Asc;
 use bit_core::{BitReader, Bits, Items, Octets};
-use latm::{MuxConfig, MuxFault, MuxField};
-use loas::LoasFault;
-use preroll::{CarryFault, read_preroll};
+use latm::MuxConfig;
+use preroll::read_preroll;
 use std::alloc::{AllocError, Global};
 use std::process::Abort;
 use std::test::Fail;
-use usac_cfg::{CfgFault, UsacConfig};
+use usac_cfg::UsacConfig;
 use usac_frame::{ExtPart, Frame, LengthForm};
 
 /// A configuration, how many bits it has, and its lines behind that of AudioSpecificConfig.
@@ -240,198 +238,6 @@ fn frames_have_their_lines(rt: HostRuntime) -> Result<(), Fail> {
         check_frame(&rt, row)?;
     }
     Ok(())
-}
-
-const BYTE: Place = Place::Byte(4096);
-
-const FRAME: Place = Place::Frame(7);
-
-const BIT: Place = Place::FrameBit {
-    frame: 12,
-    bit: 345,
-};
-
-/// A place, a reason, and the line of their refusal.
-const REFUSALS: &[(Place, Reason, &str)] = &[
-    (BYTE, Reason::SyncLost, "refused: byte 4096: sync lost\n"),
-    (BYTE, Reason::Truncated, "refused: byte 4096: truncated\n"),
-    (
-        BIT,
-        Reason::NoConfig,
-        "refused: frame 12 bit 345: no configuration\n",
-    ),
-    (
-        BIT,
-        Reason::OutOfProfile(MuxField::AudioMuxVersionA),
-        "refused: frame 12 bit 345: out of profile: audioMuxVersionA\n",
-    ),
-    (
-        BIT,
-        Reason::OutOfProfile(MuxField::AllStreamsSameTimeFraming),
-        "refused: frame 12 bit 345: out of profile: allStreamsSameTimeFraming\n",
-    ),
-    (
-        BIT,
-        Reason::OutOfProfile(MuxField::NumProgram),
-        "refused: frame 12 bit 345: out of profile: numProgram\n",
-    ),
-    (
-        BIT,
-        Reason::OutOfProfile(MuxField::NumLayer),
-        "refused: frame 12 bit 345: out of profile: numLayer\n",
-    ),
-    (
-        BIT,
-        Reason::OutOfProfile(MuxField::FrameLengthType),
-        "refused: frame 12 bit 345: out of profile: frameLengthType\n",
-    ),
-    (
-        BIT,
-        Reason::OutOfProfile(MuxField::OtherDataLenBits),
-        "refused: frame 12 bit 345: out of profile: otherDataLenBits\n",
-    ),
-    (
-        BIT,
-        Reason::MuxTooShort,
-        "refused: frame 12 bit 345: mux too short\n",
-    ),
-    (
-        BIT,
-        Reason::NotUsac { kind: 2 },
-        "refused: frame 12 bit 345: not USAC: type 2\n",
-    ),
-    (
-        BIT,
-        Reason::ConfigTooShort,
-        "refused: frame 12 bit 345: configuration too short\n",
-    ),
-    (
-        BIT,
-        Reason::TailTooLong,
-        "refused: frame 12 bit 345: configuration tail too long\n",
-    ),
-    (
-        BIT,
-        Reason::RateReserved,
-        "refused: frame 12 bit 345: reserved rate index\n",
-    ),
-    (
-        BIT,
-        Reason::RateZero,
-        "refused: frame 12 bit 345: rate zero\n",
-    ),
-    (
-        BIT,
-        Reason::FrameReserved,
-        "refused: frame 12 bit 345: reserved frame length index\n",
-    ),
-    (
-        BIT,
-        Reason::ChannelReserved,
-        "refused: frame 12 bit 345: reserved channel index\n",
-    ),
-    (
-        BIT,
-        Reason::NoChannels,
-        "refused: frame 12 bit 345: no channels\n",
-    ),
-    (
-        BIT,
-        Reason::TooManyChannels,
-        "refused: frame 12 bit 345: too many channels\n",
-    ),
-    (
-        BIT,
-        Reason::TooManyElements,
-        "refused: frame 12 bit 345: too many elements\n",
-    ),
-    (
-        BIT,
-        Reason::FrameTooShort,
-        "refused: frame 12 bit 345: frame too short\n",
-    ),
-    (
-        FRAME,
-        Reason::NotIndependent,
-        "refused: frame 7: not independent\n",
-    ),
-    (
-        FRAME,
-        Reason::NotImmediate,
-        "refused: frame 7: no preroll\n",
-    ),
-    (FRAME, Reason::Split, "refused: frame 7: preroll split\n"),
-    (
-        FRAME,
-        Reason::BadPreroll { bit: 88 },
-        "refused: frame 7: bad preroll at bit 88\n",
-    ),
-    (
-        FRAME,
-        Reason::BadConfig,
-        "refused: frame 7: bad preroll configuration\n",
-    ),
-    (
-        FRAME,
-        Reason::ConfigDiffers,
-        "refused: frame 7: preroll configuration differs\n",
-    ),
-    (
-        FRAME,
-        Reason::BadUnit { unit: 17, bit: 3 },
-        "refused: frame 7: bad carried unit 17 at bit 3\n",
-    ),
-    (
-        FRAME,
-        Reason::Nested { unit: 17 },
-        "refused: frame 7: nested preroll in unit 17\n",
-    ),
-    (
-        FRAME,
-        Reason::FirstDependent,
-        "refused: frame 7: first unit not independent\n",
-    ),
-    (
-        FRAME,
-        Reason::FormNotBuilt,
-        "refused: frame 7: form not built\n",
-    ),
-];
-
-#[test]
-fn each_reason_has_its_line(rt: HostRuntime) -> Result<(), Fail> {
-    for (place, reason, wanted) in REFUSALS {
-        let refusal = Refusal {
-            place: *place,
-            reason: *reason,
-        };
-        let line = refusal_line(rt.alloc(), &refusal)?;
-        assert_eq!(rt; line.as_slice(), wanted.as_bytes(), "{wanted}");
-    }
-    Ok(())
-}
-
-#[test]
-fn faults_are_refusals(rt: HostRuntime) {
-    let lost = LoasFault::SyncLost { byte: 4096 };
-    let wanted = Refusal {
-        place: BYTE,
-        reason: Reason::SyncLost,
-    };
-    assert_eq!(rt; loas_refusal(&lost), Some(wanted));
-    let reserved = CfgFault::ChannelReserved { at: 345 };
-    let reserved = MuxFault::Asc(AscFault::Cfg(reserved));
-    let wanted = Refusal {
-        place: BIT,
-        reason: Reason::ChannelReserved,
-    };
-    assert_eq!(rt; mux_refusal(12, &reserved), Some(wanted));
-    let bad = CarryFault::BadUnit { k: 17, at: 3 };
-    let wanted = Refusal {
-        place: FRAME,
-        reason: Reason::BadUnit { unit: 17, bit: 3 },
-    };
-    assert_eq!(rt; carry_refusal(7, &bad), Some(wanted));
 }
 
 #[test]
