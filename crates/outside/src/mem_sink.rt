@@ -79,4 +79,15 @@ impl Sink for MemSink {
         self.bytes.extend_from_slice(&from[..count])?;
         Ok(count)
     }
+
+    /// It holds nothing back, and never fails here.
+    fn flush(&mut self) -> Result<(), DeviceFault>
+        ensures written { Some self.new.bytes ≡ Some self.old.bytes }
+        ensures cause { HasCause (has_failed result) self.old.plan.faults self.new.plan.faults }
+        ensures calm { self.old.plan.failing ≡ [] → self.new.plan.failing ≡ [] }
+        ensures calm_answers { self.old.plan.failing ≡ [] → IsFailed result → ⊥ }
+        ensures same { self.new ≡ self.old }
+    {
+        Ok(())
+    }
 }

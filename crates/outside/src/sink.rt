@@ -28,4 +28,11 @@ pub trait Sink {
         ensures cause { HasCause (has_failed result) (faults self.old) (faults self.new) }
         ensures calm { calm self.old → calm self.new }
         ensures calm_answers { calm self.old → IsFailed result → ⊥ };
+
+    /// Hands on what the sink holds back of the bytes that it took.
+    fn flush(&mut self) -> Result<(), DeviceFault>
+        ensures written { written self.new ≡ written self.old }
+        ensures cause { HasCause (has_failed result) (faults self.old) (faults self.new) }
+        ensures calm { calm self.old → calm self.new }
+        ensures calm_answers { calm self.old → IsFailed result → ⊥ };
 }

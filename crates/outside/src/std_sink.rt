@@ -1,4 +1,5 @@
-ghost use Rattle.std.specs.Prelude.{◌≡◌, None};
+ghost use Rattle.std.specs.Prelude.{◌≡◌, ◌≤◌, None};
+ghost use Rattle.causes.specs.Counts.{Rose};
 
 use crate::{DeviceFault, Sink};
 use causes::raised;
@@ -21,11 +22,21 @@ impl<W> Model for StdSink<W> {
 }
 
 impl<W: Write + Drop> StdSink<W> {
-    /// A sink over that writer, which it does not flush.
+    /// A sink over that writer.
     pub fn new(writer: W) -> StdSink<W>
         ensures { result ≡ 0 }
     {
         StdSink { writer, faults: 0 }
+    }
+
+    /// Counts a fault.
+    fn failed(&mut self) -> DeviceFault
+        ensures fault { result ≡ DeviceFault.Failed }
+        ensures later { self.old ≤ self.new }
+        ensures rose { Rose self.old self.new }
+    {
+        self.faults = raised(self.faults);
+        DeviceFault::Failed
     }
 }
 
@@ -43,10 +54,14 @@ impl<W: Write + Drop> Sink for StdSink<W> {
     fn write(&mut self, from: &[u8]) -> Result<usize, DeviceFault> {
         match self.writer.write(from) {
             Ok(count) if count > 0 || from.is_empty() => Ok(count),
-            _ => {
-                self.faults = raised(self.faults);
-                Err(DeviceFault::Failed)
-            }
+            _ => Err(self.failed()),
+        }
+    }
+
+    fn flush(&mut self) -> Result<(), DeviceFault> {
+        match self.writer.flush() {
+            Ok(()) => Ok(()),
+            Err(_) => Err(self.failed()),
         }
     }
 }

@@ -84,6 +84,7 @@ fn check_writes(
         assert_eq!(rt; count, *want, "pieces of {piece}");
         rest = &rest[count.unwrap_or(0)..];
     }
+    sink.flush()?;
     assert_eq!(rt; sink.bytes(), b"abcd".as_slice(), "pieces of {piece}");
     assert_eq!(rt; sink.faults(), faults);
     Ok(())
@@ -123,6 +124,7 @@ fn a_file_is_written(rt: HostRuntime) -> Result<(), Fail> {
     let path = "outside_test_written";
     let mut sink = StdSink::new(fs::create(&rt, path)?);
     assert_eq!(rt; sink.write(b"abc")?, 3);
+    sink.flush()?;
     assert_eq!(rt; sink.faults(), 0);
     assert_eq!(rt; fs::read(&rt, path)?.as_slice(), b"abc".as_slice());
     fs::remove_file(&rt, path)?;

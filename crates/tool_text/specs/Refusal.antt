@@ -1,5 +1,5 @@
--- The line of a refusal: its place and its reason.
-use Rattle.std.specs.Prelude.{ℕ, List, codes, decimal}
+-- The line of a refusal: which input it is about, its place and its reason.
+use Rattle.std.specs.Prelude.{ℕ, List, [], codes, decimal, Option, Some, None}
 use Rattle.latm.specs.declared.fault.MuxField.{MuxField}
 use Rattle.latm.specs.declared.fault.MuxField.TheVariants as fields
 use Rattle.tool_text.specs.declared.refusal.Place.{Place}
@@ -7,12 +7,22 @@ use Rattle.tool_text.specs.declared.refusal.Place.TheVariants as places
 use Rattle.tool_text.specs.declared.refusal.Reason.{Reason}
 use Rattle.tool_text.specs.declared.refusal.Reason.TheVariants as reasons
 use Rattle.tool_text.specs.declared.refusal.Refusal.{Refusal}
+use Rattle.tool_text.specs.declared.refusal.Within.{Within}
+use Rattle.tool_text.specs.declared.refusal.Within.TheVariants as inputs
 use Rattle.tool_text.specs.Parts.{◌&◌}
 
+-- the piece or the file, where there are several
+abbrev pub within_text : Option Within → List ℕ
+within_text None = []
+within_text (Some (inputs.Piece piece)) = codes "piece " & decimal piece & codes ": "
+within_text (Some (inputs.File file)) = codes "file " & decimal file & codes ": "
+
+-- the place, where one is named
 abbrev pub place_text : Place → List ℕ
-place_text (places.Byte byte) = codes "byte " & decimal byte
-place_text (places.Frame frame) = codes "frame " & decimal frame
-place_text (places.FrameBit frame bit) = codes "frame " & decimal frame & codes " bit " & decimal bit
+place_text places.Whole = []
+place_text (places.Byte byte) = codes "byte " & decimal byte & codes ": "
+place_text (places.Frame frame) = codes "frame " & decimal frame & codes ": "
+place_text (places.FrameBit frame bit) = codes "frame " & decimal frame & codes " bit " & decimal bit & codes ": "
 
 -- the name of a field of StreamMuxConfig (ISO/IEC 14496-3)
 abbrev pub field_name : MuxField → List ℕ
@@ -52,5 +62,5 @@ reason_text reasons.FirstDependent = codes "first unit not independent"
 reason_text reasons.FormNotBuilt = codes "form not built"
 
 -- the whole line, with its line feed
-abbrev pub refusal_text : Refusal → List ℕ
-refusal_text r = codes "refused: " & place_text r.place & codes ": " & reason_text r.reason & codes "\n"
+abbrev pub refusal_text : Option Within → Refusal → List ℕ
+refusal_text within r = codes "refused: " & within_text within & place_text r.place & reason_text r.reason & codes "\n"

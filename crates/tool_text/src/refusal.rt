@@ -7,9 +7,20 @@ pub struct Refusal {
     pub reason: Reason,
 }
 
+/// Which of several inputs a refusal is about, counted from 0. Its line names that before the place.
+#[derive(Clone, Copy, Debug, PartialEq, Eq)]
+pub enum Within {
+    /// A piece of a plan: a file and where it is entered.
+    Piece(u64),
+    /// A file among others.
+    File(u64),
+}
+
 /// A place in a stream. Bytes, frames and bits are counted from 0.
 #[derive(Clone, Copy, Debug, PartialEq, Eq)]
 pub enum Place {
+    /// The whole of it: the line names no place.
+    Whole,
     /// A byte of the stream.
     Byte(u64),
     /// A frame of the stream.

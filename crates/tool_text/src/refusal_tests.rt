@@ -1,4 +1,4 @@
-use crate::{Place, Reason, Refusal, carry_refusal, loas_refusal, mux_refusal, refusal_line};
+use crate::{Place, Reason, Refusal, Within, carry_refusal, loas_refusal, mux_refusal, refusal_line};
 use asc::AscFault;
 use latm::{MuxFault, MuxField};
 use loas::LoasFault;
@@ -169,9 +169,29 @@ fn each_reason_has_its_line(rt: HostRuntime) -> Result<(), Fail> {
             place: *place,
             reason: *reason,
         };
-        let line = refusal_line(rt.alloc(), &refusal)?;
+        let line = refusal_line(rt.alloc(), None, &refusal)?;
         assert_eq!(rt; line.as_slice(), wanted.as_bytes(), "{wanted}");
     }
+    Ok(())
+}
+
+#[test]
+fn a_refusal_names_its_input(rt: HostRuntime) -> Result<(), Fail> {
+    let alloc = rt.alloc();
+    let refusal = Refusal {
+        place: FRAME,
+        reason: Reason::NotIndependent,
+    };
+    let line = refusal_line(alloc, Some(Within::Piece(63)), &refusal)?;
+    assert_eq!(rt; line.as_slice(), b"refused: piece 63: frame 7: not independent\n");
+    let refusal = Refusal {
+        place: Place::Whole,
+        reason: Reason::NotIndependent,
+    };
+    let line = refusal_line(alloc, Some(Within::File(1)), &refusal)?;
+    assert_eq!(rt; line.as_slice(), b"refused: file 1: not independent\n");
+    let line = refusal_line(alloc, None, &refusal)?;
+    assert_eq!(rt; line.as_slice(), b"refused: not independent\n");
     Ok(())
 }
 

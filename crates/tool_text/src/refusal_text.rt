@@ -1,20 +1,33 @@
 // The line that tells a refusal.
 ghost use Rattle.std.specs.Prelude.{◌≡◌, IfOk};
 ghost use Rattle.std.specs.String.{string_bytes};
-ghost use Rattle.tool_text.specs.Refusal.{field_name, place_text, reason_text, refusal_text};
+ghost use Rattle.tool_text.specs.Refusal.{field_name, within_text, place_text, reason_text, refusal_text};
 
-use crate::refusal::{Place, Reason, Refusal};
+use crate::refusal::{Place, Reason, Refusal, Within};
 use bit_core::Octets;
 use latm::MuxField;
 use std::alloc::{AllocError, Global};
 
+/// What the line says of the input, with what parts it from the place; nothing where there is one input alone.
+fn within_text(alloc: Global, within: Option<Within>) -> Result<String, AllocError>
+    ensures { IfOk result (λ text. string_bytes text ≡ within_text within) }
+{
+    match within {
+        None => Ok(String::new(alloc)),
+        Some(Within::Piece(piece)) => format!(in alloc; "piece {piece}: "),
+        Some(Within::File(file)) => format!(in alloc; "file {file}: "),
+    }
+}
+
+/// The place, with what parts it from the reason; nothing where none is named.
 fn place_text(alloc: Global, place: Place) -> Result<String, AllocError>
     ensures { IfOk result (λ text. string_bytes text ≡ place_text place) }
 {
     match place {
-        Place::Byte(byte) => format!(in alloc; "byte {byte}"),
-        Place::Frame(frame) => format!(in alloc; "frame {frame}"),
-        Place::FrameBit { frame, bit } => format!(in alloc; "frame {frame} bit {bit}"),
+        Place::Whole => Ok(String::new(alloc)),
+        Place::Byte(byte) => format!(in alloc; "byte {byte}: "),
+        Place::Frame(frame) => format!(in alloc; "frame {frame}: "),
+        Place::FrameBit { frame, bit } => format!(in alloc; "frame {frame} bit {bit}: "),
     }
 }
 
@@ -70,18 +83,24 @@ fn reason_text(alloc: Global, reason: Reason) -> Result<String, AllocError>
     }
 }
 
-/// The line of a refusal, with its line feed.
+/// The line of a refusal of a command's one input, or of one of its inputs, with its line feed.
 ///
-/// Errors: want of memory.
+/// Errors: out of memory.
 ///
 /// ```text
 /// refused: frame 2 bit 9: out of profile: numProgram
+/// refused: piece 1: frame 4: not independent
 /// ```
-pub fn refusal_line(alloc: Global, refusal: &Refusal) -> Result<Octets, AllocError>
-    ensures { IfOk result (λ text. text ≡ refusal_text refusal.now) }
+pub fn refusal_line(
+    alloc: Global,
+    within: Option<Within>,
+    refusal: &Refusal,
+) -> Result<Octets, AllocError>
+    ensures { IfOk result (λ text. text ≡ refusal_text within refusal.now) }
 {
+    let within = within_text(alloc, within)?;
     let place = place_text(alloc, refusal.place)?;
     let reason = reason_text(alloc, refusal.reason)?;
-    let text = format!(in alloc; "refused: {place}: {reason}\n")?;
+    let text = format!(in alloc; "refused: {within}{place}{reason}\n")?;
     Ok(Octets::from_vec(text.into_bytes()))
 }

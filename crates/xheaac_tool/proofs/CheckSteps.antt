@@ -1,6 +1,5 @@
 -- One frame of `check`.
-use Rattle.std.proofs.Common.{◌≡◌, ℕ, ◌+◌, ◌<◌, ◌≤◌, Bool, true, false, List, [], ◌∷◌, ◌++◌, length, Option, Some, None, Result, Ok, Err, refl, sym, ap, subst, ◌∙◌, arith, inl, inr}
-use Rattle.std.specs.Prelude.{OnOk, OnErr}
+use Rattle.std.proofs.Common.{◌≡◌, ℕ, ◌+◌, ◌≤◌, Bool, true, false, List, [], ◌∷◌, ◌++◌, length, Option, Some, Err, refl, sym, ap, subst, ◌∙◌, arith, inl, inr, ◌⊎◌}
 use Rattle.std.specs.Option.{option_map_or}
 use Rattle.std.specs.Io.KnownBytes.{append_known}
 use Rattle.std.proofs.lemmas.List.{length-append}
@@ -8,7 +7,7 @@ use Rattle.layout.specs.Text.{digit}
 use Rattle.latm.specs.declared.mux_config.MuxConfig.{MuxConfig}
 use Rattle.usac_cfg.specs.declared.usac_config.UsacConfig.{UsacConfig}
 use Rattle.usac_frame.specs.declared.frame.Frame.{Frame as UsacFrame}
-use Rattle.usac_frame.specs.AccessUnit.{IsFrame, frame_of}
+use Rattle.usac_frame.specs.AccessUnit.{IsFrame}
 use Rattle.usac_frame.specs.FrameExact.{spelled_once, frame_of_is}
 use Rattle.usac_frame.specs.Units.{is_immediate}
 use Rattle.preroll.specs.declared.fault.CarryFault.{CarryFault}
@@ -16,7 +15,7 @@ use Rattle.preroll.specs.declared.fault.CarryFault.TheVariants as carries
 use Rattle.preroll.specs.Faults.{is_want}
 use Rattle.preroll.specs.Carried.{IsFirst}
 use Rattle.outside.specs.declared.fault.DeviceFault.{DeviceFault}
-use Rattle.core_iface.specs.Decoding.{Definitions}
+use Rattle.outside.specs.declared.fault.DeviceFault.TheVariants as devices
 use Rattle.core_iface.specs.Answering.{Meaning}
 use Rattle.tool_text.specs.declared.refusal.Refusal.{Refusal}
 use Rattle.tool_text.specs.Faults.{refusal_of_carry}
@@ -24,20 +23,19 @@ use Rattle.tool_text.specs.CheckLine.{check_line}
 use Rattle.au_stream.specs.declared.event.Event.{Event}
 use Rattle.au_stream.specs.Events.{IsEvent}
 use Rattle.au_stream.specs.Frames.{Frame, config_of}
-use Rattle.au_stream.specs.Segments.{Segment}
 use Rattle.au_stream.specs.Script.{most_bytes}
 use Rattle.au_stream.proofs.SegmentLists.{split_more, segments_few}
 use Rattle.xheaac_tool.specs.declared.checked.Check.{Check}
-use Rattle.xheaac_tool.specs.declared.frame_end.FrameEnd.{FrameEnd}
-use Rattle.xheaac_tool.specs.declared.frame_end.FrameEnd.TheVariants as ends
-use Rattle.xheaac_tool.specs.Commands.{Takes}
-use Rattle.xheaac_tool.specs.Handing.{WrotePart}
+use Rattle.commands.specs.declared.frame_end.FrameEnd.{FrameEnd}
+use Rattle.commands.specs.declared.frame_end.FrameEnd.TheVariants as ends
+use Rattle.commands.specs.Commands.{RefusesNoEnd}
+use Rattle.commands.specs.Handing.{WrotePart}
 use Rattle.xheaac_tool.specs.Reading.{ReadsUnit, IsJudgement}
-use Rattle.xheaac_tool.specs.OneFrame.{Handles, DidFrame, Closed}
-use Rattle.xheaac_tool.specs.Checking.{ClosesCounted, CheckRefuses, TooShort, Uncarried, how_many, flag_of, is_independent, is_play_out, check_job}
+use Rattle.commands.specs.OneFrame.{Handles, DidFrame, DidPart, DidSome, DidRefuse, DidEnd, DidEndPart, HandlesEnd, from_device}
+use Rattle.xheaac_tool.specs.Checking.{ClosesCounted, CheckRefuses, TooShort, Uncarried, how_many, flag_of, is_independent, is_play_out, checking}
 use Rattle.xheaac_tool.specs.Counting.{HoldsCounts, AreFew, counted, EndsBy, KeepsRules, BreaksRule}
+use Rattle.commands.proofs.Going.{append-none}
 use Rattle.xheaac_tool.proofs.Lines.{frame_is, not_short, too_short}
-use Rattle.xheaac_tool.proofs.Going.{append-none}
 
 -- ---- counts
 
@@ -101,30 +99,37 @@ check_takes before f config au g c a is keeps r (Uncarried h here immediate e fi
     let there : IsFirst config g e = subst (λ (x : UsacConfig). IsFirst x g e) (sym c) (subst (λ (x : UsacFrame). IsFirst (config_of f) x e) same first) in
     keeps now e there.breaks
 
-pub check_did : (d : Definitions) (before : List Frame) (f : Frame) (m : Meaning) (w : Option (List ℕ)) (config : UsacConfig) (au : List ℕ) (g : UsacFrame) → config ≡ config_of f → au ≡ f.au → IsFrame config au g → (is_immediate config g ≡ true → KeepsRules config g)
-    → w ≡ append_known w [] → DidFrame (check_job d) before f m m w w
-check_did d before f m w config au g c a is keeps same = record { takes = check_takes before f config au g c a is keeps; ready = refl; needed = tt; fed = omega arith; written = same }
+pub check_did : (before : List Frame) (f : Frame) (m : Meaning) (w : Option (List ℕ)) (config : UsacConfig) (au : List ℕ) (g : UsacFrame) → config ≡ config_of f → au ≡ f.au → IsFrame config au g → (is_immediate config g ≡ true → KeepsRules config g)
+    → w ≡ append_known w [] → DidFrame checking before f m m w w
+check_did before f m w config au g c a is keeps same = record { takes = check_takes before f config au g c a is keeps; fed = omega arith; bytes = []; grows = refl; written = same }
+
+-- it is refused, or memory ran out
+untaken : (before : List Frame) (f : Frame) (m : Meaning) (w : Option (List ℕ)) (r : Refusal) → CheckRefuses before f r → DidRefuse checking before f r m m w w
+untaken before f m w r bad = record { refuses = bad; fed = refl; written = append-none w }
+
+out_of_memory : (before : List Frame) (f : Frame) (m : Meaning) (w : Option (List ℕ)) → DidPart checking before f m m w w ⊎ DidSome checking before f m m w w
+out_of_memory before f m w = inr (record { fed = omega arith; written = (0, append-none w) })
 
 -- its preroll breaks a rule
-pub check_broken : (d : Definitions) (before : List Frame) (f : Frame) (m : Meaning) (w : Option (List ℕ)) (config : UsacConfig) (au : List ℕ) (number : ℕ) (g : UsacFrame) (end : FrameEnd) → config ≡ config_of f → au ≡ f.au → number ≡ length before → IsFrame config au g
-    → (is_immediate config g ≡ true) × BreaksRule number config g end → Handles (check_job d) before f m m w w (Err end)
-check_broken d before f m w config au number g (ends.Refused r) c a n is bad =
+pub check_broken : (before : List Frame) (f : Frame) (m : Meaning) (w : Option (List ℕ)) (config : UsacConfig) (au : List ℕ) (number : ℕ) (g : UsacFrame) (end : FrameEnd) → config ≡ config_of f → au ≡ f.au → number ≡ length before → IsFrame config au g
+    → (is_immediate config g ≡ true) × BreaksRule number config g end → Handles checking before f m m w w (Err end)
+check_broken before f m w config au number g (ends.Refused r) c a n is bad =
     let rule = bad.1 in
     let first : IsFirst (config_of f) g rule.0 = subst (λ (x : UsacConfig). IsFirst x g rule.0) c rule.1 in
     let immediate : is_immediate (config_of f) g ≡ true = ap (λ (x : UsacConfig). is_immediate x g) (sym c) ∙ bad.0 in
-    (Uncarried g (frame_is f config au g c a is) immediate rule.0 first (ap (λ (k : ℕ). refusal_of_carry k rule.0) (sym n) ∙ rule.2), refl, refl)
-check_broken d before f m w config au number g ends.WriteFault c a n is bad = absurd bad.1
-check_broken d before f m w config au number g ends.CoreFault c a n is bad = absurd bad.1
-check_broken d before f m w config au number g (ends.Memory x) c a n is bad = inr (record { fed = omega arith; written = refl })
+    untaken before f m w r (Uncarried g (frame_is f config au g c a is) immediate rule.0 first (ap (λ (k : ℕ). refusal_of_carry k rule.0) (sym n) ∙ rule.2))
+check_broken before f m w config au number g ends.WriteFault c a n is bad = absurd bad.1
+check_broken before f m w config au number g ends.CoreFault c a n is bad = absurd bad.1
+check_broken before f m w config au number g (ends.Memory x) c a n is bad = out_of_memory before f m w
 
 -- it was not read
-pub check_unread : (d : Definitions) (before : List Frame) (f : Frame) (m : Meaning) (w : Option (List ℕ)) (event : Event) (mux : MuxConfig) (end : FrameEnd) → IsEvent before f event → mux ≡ f.mux → ReadsUnit event.frame mux.asc.usac event.au (Err end)
-    → Handles (check_job d) before f m m w w (Err end)
-check_unread d before f m w event mux (ends.Refused r) e is bad =
-    (TooShort (too_short before f mux.asc.usac event.au event.frame bad.0 r (ap (λ (x : MuxConfig). x.asc.usac) is) e.au e.number bad.1 bad.2), refl, refl)
-check_unread d before f m w event mux ends.WriteFault e is bad = absurd bad
-check_unread d before f m w event mux ends.CoreFault e is bad = absurd bad
-check_unread d before f m w event mux (ends.Memory x) e is bad = inr (record { fed = omega arith; written = refl })
+pub check_unread : (before : List Frame) (f : Frame) (m : Meaning) (w : Option (List ℕ)) (event : Event) (mux : MuxConfig) (end : FrameEnd) → IsEvent before f event → mux ≡ f.mux → ReadsUnit event.frame mux.asc.usac event.au (Err end)
+    → Handles checking before f m m w w (Err end)
+check_unread before f m w event mux (ends.Refused r) e is bad =
+    untaken before f m w r (TooShort (too_short before f mux.asc.usac event.au event.frame bad.0 r (ap (λ (x : MuxConfig). x.asc.usac) is) e.au e.number bad.1 bad.2))
+check_unread before f m w event mux ends.WriteFault e is bad = absurd bad
+check_unread before f m w event mux ends.CoreFault e is bad = absurd bad
+check_unread before f m w event mux (ends.Memory x) e is bad = out_of_memory before f m w
 
 -- a frame whose preroll breaks a rule is no fault of a device or of the core
 pub broken_is_judgement : (number : ℕ) (c : UsacConfig) (g : UsacFrame) (end : FrameEnd) → BreaksRule number c g end → IsJudgement end
@@ -152,21 +157,18 @@ closes_counted c frames line h is = record {
       ∙ ap (λ (n : ℕ). check_line (length frames) (length h.segments) n c.immediate) h.independent ∙ ap (λ (n : ℕ). check_line (length frames) (length h.segments) (how_many is_independent frames) n) h.immediate;
 }
 
--- the line was not made
-pub closed_unmade : (c : Check) (frames : List Frame) (w : Option (List ℕ)) (e : DeviceFault) → HoldsCounts c frames → Closed (ClosesCounted frames) w w (Err e)
-closed_unmade c frames w e h = record {
-  closing = check_line c.frames c.configurations c.independent c.immediate;
-  closes = closes_counted c frames _ h refl;
-  ok = tt;
-  err = (0, append-none w);
-}
+-- the line was written
+pub check_closed : (c : Check) (frames : List Frame) (w0 w1 : Option (List ℕ)) (line bytes : List ℕ) → HoldsCounts c frames → line ≡ check_line c.frames c.configurations c.independent c.immediate → bytes ≡ line → w1 ≡ append_known w0 bytes → DidEnd (RefusesNoEnd frames) (ClosesCounted frames) w0 w1
+check_closed c frames w0 w1 line bytes h is same written = record { takes = λ r never. never; closing = bytes; closes = closes_counted c frames bytes h (same ∙ is); written = written }
 
--- it was written, or a front of it
-pub closed_line : (c : Check) (frames : List Frame) (w0 w1 : Option (List ℕ)) (line bytes : List ℕ) (result : Result (Unit {0}) DeviceFault) → HoldsCounts c frames → line ≡ check_line c.frames c.configurations c.independent c.immediate → bytes ≡ line
-    → OnOk result (w1 ≡ append_known w0 bytes) → OnErr result (WrotePart w0 w1 bytes) → Closed (ClosesCounted frames) w0 w1 result
-closed_line c frames w0 w1 line bytes result h is same ok err = record {
-  closing = bytes;
-  closes = closes_counted c frames bytes h (same ∙ is);
-  ok = ok;
-  err = err;
-}
+-- a front of it was written
+pub check_stopped : (c : Check) (frames : List Frame) (w0 w1 : Option (List ℕ)) (line bytes : List ℕ) (fault : DeviceFault) → HoldsCounts c frames → line ≡ check_line c.frames c.configurations c.independent c.immediate → bytes ≡ line → WrotePart w0 w1 bytes
+    → HandlesEnd (RefusesNoEnd frames) (ClosesCounted frames) w0 w1 (Err (from_device fault))
+check_stopped c frames w0 w1 line bytes fault h is same part = by_fault fault
+  where
+    did : DidEndPart (RefusesNoEnd frames) (ClosesCounted frames) w0 w1
+    did = record { takes = λ r never. never; closing = bytes; closes = closes_counted c frames bytes h (same ∙ is); written = part }
+
+    by_fault : (x : DeviceFault) → HandlesEnd (RefusesNoEnd frames) (ClosesCounted frames) w0 w1 (Err (from_device x))
+    by_fault devices.Failed = did
+    by_fault (devices.Memory e) = inl did

@@ -1,8 +1,5 @@
-pub mod Handing
-pub mod Going
-pub mod Endings
 pub mod Lines
-pub mod WordLemmas
-pub mod Rans
+pub mod Outputs
 pub mod PlaySteps
 pub mod CheckSteps
+pub mod Runs

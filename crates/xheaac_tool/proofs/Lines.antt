@@ -5,9 +5,8 @@ use Rattle.std.specs.Io.KnownBytes.{append_known}
 use Rattle.std.proofs.lemmas.Bool.{cases_lt}
 use Rattle.std.proofs.lemmas.List.{take_all, take-append-le, take_at}
 use Rattle.std.proofs.Math.Seq.{take-append-add}
-use Rattle.xheaac_tool.specs.Handing.{WrotePart}
+use Rattle.commands.specs.Handing.{WrotePart}
 use Rattle.latm.specs.declared.mux_config.MuxConfig.{MuxConfig}
-use Rattle.core_iface.specs.Decoding.{Definitions}
 use Rattle.core_iface.specs.Answering.{Meaning}
 use Rattle.outside.specs.declared.fault.DeviceFault.{DeviceFault}
 use Rattle.outside.specs.declared.fault.DeviceFault.TheVariants as devices
@@ -34,13 +33,14 @@ use Rattle.tool_text.specs.declared.refusal.Reason.TheVariants as reasons
 use Rattle.au_stream.specs.declared.event.Event.{Event}
 use Rattle.au_stream.specs.Events.{IsEvent}
 use Rattle.au_stream.specs.Frames.{Frame, config_of}
-use Rattle.xheaac_tool.specs.OneFrame.{Handles, DidFrame, DidPart, from_device}
+use Rattle.commands.specs.OneFrame.{Handles, DidFrame, DidPart, from_device}
 use Rattle.xheaac_tool.specs.Output.{IsTooShort}
 use Rattle.xheaac_tool.specs.Reading.{ReadsUnit}
-use Rattle.xheaac_tool.specs.declared.frame_end.FrameEnd.{FrameEnd}
-use Rattle.xheaac_tool.specs.declared.frame_end.FrameEnd.TheVariants as ends
-use Rattle.xheaac_tool.specs.Showing.{joined, mux_where, lines_where, payload_lines, preroll_where, frame_text, text_where, shown_of, show_job}
-use Rattle.xheaac_tool.proofs.Handing.{append-append}
+use Rattle.commands.specs.declared.frame_end.FrameEnd.{FrameEnd}
+use Rattle.commands.specs.declared.frame_end.FrameEnd.TheVariants as ends
+use Rattle.xheaac_tool.specs.Showing.{joined, mux_where, lines_where, payload_lines, preroll_where, frame_text, text_where, shown_of, opening_of, showing}
+use Rattle.xheaac_tool.proofs.Outputs.{show_grows}
+use Rattle.commands.proofs.Handing.{append-append}
 
 -- a front of a front
 front_of_front : (k : ℕ) (xs ys : List ℕ) → (j : ℕ) × (take k xs ≡ take j (xs ++ ys))
@@ -60,6 +60,10 @@ pub part_in_front : (before after : Option (List ℕ)) (a b : List ℕ) → Wrot
 part_in_front before after a b part =
     let front = front_of_front part.0 a b in
     (front.0, part.1 ∙ ap (λ (x : List ℕ). append_known before x) front.1)
+
+-- bytes, and those behind them
+pub both_all : (w0 w1 w2 : Option (List ℕ)) (a b : List ℕ) → w1 ≡ append_known w0 a → w2 ≡ append_known w1 b → w2 ≡ append_known w0 (a ++ b)
+both_all w0 w1 w2 a b one two = two ∙ ap (λ (x : Option (List ℕ)). append_known x b) one ∙ append-append w0 a b
 
 -- the lines before one of them, that line, and the others
 joined_split : (lines : List (List ℕ)) (i : ℕ) (line : List ℕ) → i < length lines → line ≡ get_or lines i line → joined lines ≡ joined (take i lines) ++ (line ++ joined (drop (suc i) lines))
@@ -96,15 +100,17 @@ payload_bad payload at bad =
 pub preroll_all : (c : UsacConfig) (g : UsacFrame) (lines : List (List ℕ)) → is_immediate c g ≡ true → lines ≡ payload_lines (first_payload g) → joined lines ≡ preroll_where c g
 preroll_all c g lines immediate is = ap joined is ∙ sym (ap (λ (b : Bool). if b then joined (payload_lines (first_payload g)) else []) immediate)
 
--- what is written of a frame
-text_is : (number : ℕ) (f : Frame) (bytes : ℕ) (opens : Bool) (mux : MuxConfig) (event_number : ℕ) (g : UsacFrame) → opens ≡ f.opens → mux ≡ f.mux → event_number ≡ number → bytes ≡ length f.au → frame_of (config_of f) f.au ≡ Some g
-    → mux_where opens mux ++ frame_text mux.asc.usac event_number bytes g ≡ shown_of number f
-text_is number f bytes opens mux event_number g o m n b found =
-    ap (λ (x : Bool). mux_where x mux ++ frame_text mux.asc.usac event_number bytes g) o
-    ∙ ap (λ (x : MuxConfig). mux_where f.opens x ++ frame_text x.asc.usac event_number bytes g) m
-    ∙ ap (λ (x : ℕ). mux_where f.opens f.mux ++ frame_text (config_of f) x bytes g) n
-    ∙ ap (λ (x : ℕ). mux_where f.opens f.mux ++ frame_text (config_of f) number x g) b
-    ∙ ap (λ (x : Option UsacFrame). mux_where f.opens f.mux ++ text_where (config_of f) number (length f.au) x) (sym found)
+-- what is written of a frame before it is judged, and behind that
+pub opening_is : (before : List Frame) (f : Frame) (event : Event) (mux : MuxConfig) → IsEvent before f event → mux ≡ f.mux → mux_where event.opens mux ≡ opening_of before f
+opening_is before f event mux e is = ap (λ (x : Bool). mux_where x mux) e.opens ∙ ap (λ (x : MuxConfig). mux_where f.opens x) is
+
+text_is : (number : ℕ) (f : Frame) (bytes : ℕ) (config : UsacConfig) (event_number : ℕ) (g : UsacFrame) → config ≡ config_of f → event_number ≡ number → bytes ≡ length f.au → frame_of (config_of f) f.au ≡ Some g
+    → frame_text config event_number bytes g ≡ text_where (config_of f) number (length f.au) (frame_of (config_of f) f.au)
+text_is number f bytes config event_number g c n b found =
+    ap (λ (x : UsacConfig). frame_text x event_number bytes g) c
+    ∙ ap (λ (x : ℕ). frame_text (config_of f) x bytes g) n
+    ∙ ap (λ (x : ℕ). frame_text (config_of f) number x g) b
+    ∙ ap (λ (x : Option UsacFrame). text_where (config_of f) number (length f.au) x) (sym found)
 
 -- the frame that was read, of the access unit of a frame
 pub frame_is : (f : Frame) (config : UsacConfig) (au : List ℕ) (g : UsacFrame) → config ≡ config_of f → au ≡ f.au → IsFrame config au g → IsFrame (config_of f) f.au g
@@ -124,48 +130,59 @@ too_short before f config au number at r c a n bad is = record {
   refusal = is ∙ ap (λ (k : ℕ). record { place = places.FrameBit k at; reason = reasons.FrameTooShort }) n;
 }
 
+-- what opens it was not written to its end
+pub show_unopened : (before : List Frame) (f : Frame) (m : Meaning) (w0 w1 : Option (List ℕ)) (event : Event) (mux : MuxConfig) (fault : DeviceFault) → IsEvent before f event → mux ≡ f.mux → WrotePart w0 w1 (mux_where event.opens mux)
+    → Handles showing before f m m w0 w1 (Err (from_device fault))
+show_unopened before f m w0 w1 event mux devices.Failed e is part = inr (record { fed = refl; written = subst (λ (x : List ℕ). WrotePart w0 w1 x) (opening_is before f event mux e is) part })
+show_unopened before f m w0 w1 event mux (devices.Memory x) e is part = inr (record { fed = omega arith; written = subst (λ (x : List ℕ). WrotePart w0 w1 x) (opening_is before f event mux e is) part })
+
 -- a frame of which a part was written
-pub show_stopped : (d : Definitions) (before : List Frame) (f : Frame) (m : Meaning) (w0 w1 : Option (List ℕ)) (event : Event) (mux : MuxConfig) (g : UsacFrame) (fault : DeviceFault) → IsEvent before f event → mux ≡ f.mux → IsFrame mux.asc.usac event.au g
-    → WrotePart w0 w1 (mux_where event.opens mux ++ frame_text mux.asc.usac event.frame (length event.au) g) → Handles (show_job d) before f m m w0 w1 (Err (from_device fault))
-show_stopped d before f m w0 w1 event mux g fault e is frame part = by_fault fault
+pub show_stopped : (before : List Frame) (f : Frame) (m : Meaning) (w0 w1 w2 : Option (List ℕ)) (event : Event) (mux : MuxConfig) (g : UsacFrame) (fault : DeviceFault) → IsEvent before f event → mux ≡ f.mux → IsFrame mux.asc.usac event.au g
+    → w1 ≡ append_known w0 (mux_where event.opens mux) → WrotePart w1 w2 (frame_text mux.asc.usac event.frame (length event.au) g) → Handles showing before f m m w0 w2 (Err (from_device fault))
+show_stopped before f m w0 w1 w2 event mux g fault e is frame opened part = by_fault fault
   where
-    did : DidPart (show_job d) before f m m w0 w1
+    did : DidPart showing before f m m w0 w2
     did =
         let config : mux.asc.usac ≡ config_of f = ap (λ (x : MuxConfig). x.asc.usac) is in
         let found = frame_of_is.found (config_of f) f.au g (frame_is f mux.asc.usac event.au g config e.au frame) in
+        let line = text_is (length before) f (length event.au) mux.asc.usac event.frame g config e.number (ap (λ (x : List ℕ). length x) e.au) found in
         record {
           takes = not_short before f mux.asc.usac event.au g config e.au frame;
           fed = omega arith;
-          written = subst (λ (x : List ℕ). WrotePart w0 w1 x) (text_is (length before) f (length event.au) event.opens mux event.frame g e.opens is e.number (ap (λ (x : List ℕ). length x) e.au) found) part;
+          bytes = shown_of (length before) f;
+          grows = show_grows before f;
+          written = part_behind w0 w1 w2 (mux_where f.opens f.mux) (text_where (config_of f) (length before) (length f.au) (frame_of (config_of f) f.au)) (opened ∙ ap (λ (x : List ℕ). append_known w0 x) (opening_is before f event mux e is)) (subst (λ (x : List ℕ). WrotePart w1 w2 x) line part);
         }
 
-    by_fault : (x : DeviceFault) → Handles (show_job d) before f m m w0 w1 (Err (from_device x))
-    by_fault devices.Failed = did
+    by_fault : (x : DeviceFault) → Handles showing before f m m w0 w2 (Err (from_device x))
+    by_fault devices.Failed = inl did
     by_fault (devices.Memory x) = inl did
 
 -- a frame that was shown
-pub show_did : (d : Definitions) (before : List Frame) (f : Frame) (m : Meaning) (w0 w1 : Option (List ℕ)) (event : Event) (mux : MuxConfig) (g : UsacFrame) → IsEvent before f event → mux ≡ f.mux → IsFrame mux.asc.usac event.au g
-    → w1 ≡ append_known w0 (mux_where event.opens mux ++ frame_text mux.asc.usac event.frame (length event.au) g) → DidFrame (show_job d) before f m m w0 w1
-show_did d before f m w0 w1 event mux g e is frame written =
+pub show_did : (before : List Frame) (f : Frame) (m : Meaning) (w0 w1 w2 : Option (List ℕ)) (event : Event) (mux : MuxConfig) (g : UsacFrame) → IsEvent before f event → mux ≡ f.mux → IsFrame mux.asc.usac event.au g
+    → w1 ≡ append_known w0 (mux_where event.opens mux) → w2 ≡ append_known w1 (frame_text mux.asc.usac event.frame (length event.au) g) → DidFrame showing before f m m w0 w2
+show_did before f m w0 w1 w2 event mux g e is frame opened written =
     let config : mux.asc.usac ≡ config_of f = ap (λ (x : MuxConfig). x.asc.usac) is in
     let found = frame_of_is.found (config_of f) f.au g (frame_is f mux.asc.usac event.au g config e.au frame) in
+    let line = text_is (length before) f (length event.au) mux.asc.usac event.frame g config e.number (ap (λ (x : List ℕ). length x) e.au) found in
     record {
       takes = not_short before f mux.asc.usac event.au g config e.au frame;
-      ready = refl;
-      needed = tt;
       fed = omega arith;
-      written = written ∙ ap (λ (x : List ℕ). append_known w0 x) (text_is (length before) f (length event.au) event.opens mux event.frame g e.opens is e.number (ap (λ (x : List ℕ). length x) e.au) found);
+      bytes = shown_of (length before) f;
+      grows = show_grows before f;
+      written = both_all w0 w1 w2 (mux_where f.opens f.mux) (text_where (config_of f) (length before) (length f.au) (frame_of (config_of f) f.au)) (opened ∙ ap (λ (x : List ℕ). append_known w0 x) (opening_is before f event mux e is)) (written ∙ ap (λ (x : List ℕ). append_known w1 x) line);
     }
 
--- a frame that was not read
-pub show_unread : (d : Definitions) (before : List Frame) (f : Frame) (m : Meaning) (w : Option (List ℕ)) (event : Event) (mux : MuxConfig) (end : FrameEnd) → IsEvent before f event → mux ≡ f.mux → ReadsUnit event.frame mux.asc.usac event.au (Err end)
-    → Handles (show_job d) before f m m w w (Err end)
-show_unread d before f m w event mux (ends.Refused r) e is bad =
-    (too_short before f mux.asc.usac event.au event.frame bad.0 r (ap (λ (x : MuxConfig). x.asc.usac) is) e.au e.number bad.1 bad.2, refl, refl)
-show_unread d before f m w event mux ends.WriteFault e is bad = absurd bad
-show_unread d before f m w event mux ends.CoreFault e is bad = absurd bad
-show_unread d before f m w event mux (ends.Memory x) e is bad = inr (record { fed = omega arith; written = refl })
-
--- the lines of a mux and the line behind them
-pub both_all : (w0 w1 w2 : Option (List ℕ)) (a b : List ℕ) → w1 ≡ append_known w0 a → w2 ≡ append_known w1 b → w2 ≡ append_known w0 (a ++ b)
-both_all w0 w1 w2 a b one two = two ∙ ap (λ (x : Option (List ℕ)). append_known x b) one ∙ append-append w0 a b
+-- a frame that was opened, and not read
+pub show_unread : (before : List Frame) (f : Frame) (m : Meaning) (w0 w1 : Option (List ℕ)) (event : Event) (mux : MuxConfig) (end : FrameEnd) → IsEvent before f event → mux ≡ f.mux → ReadsUnit event.frame mux.asc.usac event.au (Err end)
+    → w1 ≡ append_known w0 (mux_where event.opens mux) → Handles showing before f m m w0 w1 (Err end)
+show_unread before f m w0 w1 event mux (ends.Refused r) e is bad opened = record {
+  refuses = too_short before f mux.asc.usac event.au event.frame bad.0 r (ap (λ (x : MuxConfig). x.asc.usac) is) e.au e.number bad.1 bad.2;
+  fed = refl;
+  written = opened ∙ ap (λ (x : List ℕ). append_known w0 x) (opening_is before f event mux e is);
+}
+show_unread before f m w0 w1 event mux ends.WriteFault e is bad opened = absurd bad
+show_unread before f m w0 w1 event mux ends.CoreFault e is bad opened = absurd bad
+show_unread before f m w0 w1 event mux (ends.Memory x) e is bad opened =
+    let xs = opening_of before f in
+    inr (record { fed = omega arith; written = (length xs, opened ∙ ap (λ (y : List ℕ). append_known w0 y) (opening_is before f event mux e is ∙ sym (take_all (length xs) xs (omega arith)))) })

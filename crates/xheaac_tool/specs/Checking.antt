@@ -1,20 +1,18 @@
 -- What `check` refuses of a stream, and what it writes at its end.
-use Rattle.std.specs.Prelude.{◌≡◌, ℕ, ◌+◌, Bool, true, false, List, [], ◌∷◌, length, Option, Some}
-use Rattle.std.specs.Option.{option_map, option_map_or}
+use Rattle.std.specs.Prelude.{◌≡◌, ℕ, ◌+◌, Bool, true, false, List, [], ◌∷◌, length, Some, None}
+use Rattle.std.specs.Option.{option_map_or}
 use Rattle.layout.specs.Text.{digit}
 use Rattle.usac_frame.specs.declared.frame.Frame.{Frame as UsacFrame}
 use Rattle.usac_frame.specs.AccessUnit.{IsFrame, frame_of}
 use Rattle.usac_frame.specs.Units.{is_immediate}
 use Rattle.preroll.specs.declared.fault.CarryFault.{CarryFault}
 use Rattle.preroll.specs.Carried.{IsFirst}
-use Rattle.core_iface.specs.Decoding.{Definitions}
 use Rattle.tool_text.specs.declared.refusal.Refusal.{Refusal}
 use Rattle.tool_text.specs.Faults.{refusal_of_carry}
 use Rattle.tool_text.specs.CheckLine.{check_line}
 use Rattle.au_stream.specs.Frames.{Frame, config_of}
 use Rattle.au_stream.specs.Segments.{Segment, AreSegments}
-use Rattle.xheaac_tool.specs.Commands.{Command}
-use Rattle.xheaac_tool.specs.Jobs.{Job}
+use Rattle.commands.specs.Commands.{Command, opens_silently, RefusesNoEnd, feeds_none}
 use Rattle.xheaac_tool.specs.Output.{IsTooShort}
 
 -- Why `check` refuses a frame: it is too short; or it is immediate, and its preroll breaks a rule, of which this is the first.
@@ -46,12 +44,4 @@ pub record ClosesCounted (frames : List Frame) (text : List ℕ) : Type 0 where
 
 -- `check` writes that line alone, and feeds no frame.
 abbrev pub checking : Command
-checking = record { Refuses = CheckRefuses; output = λ frames. []; Closes = ClosesCounted; feeds = false }
-
-abbrev pub check_job : Definitions → Job
-check_job d = record {
-  command = checking;
-  step = λ before ready f. ready;
-  bytes = λ before ready f. [];
-  Needs = λ ready. Unit {0};
-}
+checking = record { within = None; opening = opens_silently; Refuses = CheckRefuses; output = λ frames. []; RefusesEnd = RefusesNoEnd; Closes = ClosesCounted; plays = false; units = feeds_none; Serves = λ f. Unit {0} }

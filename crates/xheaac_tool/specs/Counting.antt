@@ -1,5 +1,5 @@
 -- What `check` holds between two frames, and how it judges one.
-use Rattle.std.specs.Prelude.{◌≡◌, ℕ, ◌+◌, ◌≤◌, Bool, List, length, Option, Some}
+use Rattle.std.specs.Prelude.{◌≡◌, ℕ, ◌+◌, ◌≤◌, Bool, List, length, Some}
 use Rattle.layout.specs.Text.{digit}
 use Rattle.usac_cfg.specs.declared.usac_config.UsacConfig.{UsacConfig}
 use Rattle.usac_frame.specs.declared.frame.Frame.{Frame as UsacFrame}
@@ -10,8 +10,8 @@ use Rattle.au_stream.specs.Frames.{Frame}
 use Rattle.au_stream.specs.Segments.{Segment, Split}
 use Rattle.au_stream.specs.Script.{most_bytes}
 use Rattle.xheaac_tool.specs.declared.checked.Check.{Check}
-use Rattle.xheaac_tool.specs.declared.frame_end.FrameEnd.{FrameEnd}
-use Rattle.xheaac_tool.specs.declared.frame_end.FrameEnd.TheVariants as ends
+use Rattle.commands.specs.declared.frame_end.FrameEnd.{FrameEnd}
+use Rattle.commands.specs.declared.frame_end.FrameEnd.TheVariants as ends
 use Rattle.xheaac_tool.specs.Checking.{how_many, is_independent, is_play_out}
 
 -- These frames were counted.

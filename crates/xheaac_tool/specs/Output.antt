@@ -1,5 +1,5 @@
 -- What `play` writes for the frames of a stream, and which of them it refuses.
-use Rattle.std.specs.Prelude.{◌≡◌, ◌⊎◌, ◌<◌, ℕ, Bool, false, true, List, [], ◌∷◌, length, map, ℤ}
+use Rattle.std.specs.Prelude.{◌≡◌, ◌⊎◌, ◌<◌, ℕ, Bool, false, true, List, [], ◌∷◌, length, map, ℤ, None}
 use Rattle.layout.specs.Text.{bits_of}
 use Rattle.usac_cfg.specs.declared.usac_config.UsacConfig.{UsacConfig}
 use Rattle.usac_frame.specs.declared.frame.Frame.{Frame as UsacFrame}
@@ -14,7 +14,7 @@ use Rattle.tool_text.specs.declared.refusal.Reason.{Reason}
 use Rattle.tool_text.specs.declared.refusal.Reason.TheVariants as reasons
 use Rattle.tool_text.specs.declared.refusal.Refusal.{Refusal}
 use Rattle.au_stream.specs.Frames.{Frame, config_of, last_of, IsChange}
-use Rattle.xheaac_tool.specs.Commands.{Command, ClosesSilently}
+use Rattle.commands.specs.Commands.{Command, opens_silently, RefusesNoEnd, ClosesSilently}
 
 -- the units of the frames' access units
 abbrev pub units_of : List Frame → List UnitValue
@@ -54,10 +54,14 @@ pub data PlayRefuses (before : List Frame) (f : Frame) (r : Refusal) : Type 0 wh
   TooShort : (IsLater before f → ⊥) → IsTooShort before f r → PlayRefuses before f r
   NoStart : before ≡ [] → (g : UsacFrame) → IsFrame (config_of f) f.au g → IsNoStart (config_of f) g r → PlayRefuses before f r
 
--- `play` writes the sample bytes of frames, each of which it feeds to the core.
-abbrev pub playing : Definitions → Command
-playing d = record { Refuses = PlayRefuses; output = output d; Closes = ClosesSilently; feeds = true }
-
 -- the core serves the configuration of a frame
 abbrev pub IsServed : Definitions → Frame → Type 0
 IsServed d f = d.serves (config_of f)
+
+-- the unit of each frame is fed
+abbrev pub feeds_each : List Frame → Frame → ℕ
+feeds_each before f = 1
+
+-- `play` writes the sample bytes of frames, each of which it feeds to the core.
+abbrev pub playing : Definitions → Command
+playing d = record { within = None; opening = opens_silently; Refuses = PlayRefuses; output = output d; RefusesEnd = RefusesNoEnd; Closes = ClosesSilently; plays = true; units = feeds_each; Serves = IsServed d }

@@ -11,8 +11,8 @@ use Rattle.tool_text.specs.declared.refusal.Reason.TheVariants as reasons
 use Rattle.tool_text.specs.declared.refusal.Refusal.{Refusal}
 use Rattle.au_stream.specs.Frames.{Frame}
 use Rattle.xheaac_tool.specs.Output.{PlayRefuses}
-use Rattle.xheaac_tool.specs.declared.frame_end.FrameEnd.{FrameEnd}
-use Rattle.xheaac_tool.specs.declared.frame_end.FrameEnd.TheVariants as ends
+use Rattle.commands.specs.declared.frame_end.FrameEnd.{FrameEnd}
+use Rattle.commands.specs.declared.frame_end.FrameEnd.TheVariants as ends
 
 -- The frame that the access unit with that number is, or its first fault as a refusal, or want of memory.
 abbrev pub ReadsUnit : ℕ → UsacConfig → List ℕ → Result UsacFrame FrameEnd → Type 0

@@ -1,7 +1,6 @@
 -- What `show` writes for the frames of a stream.
 use Rattle.std.specs.Prelude.{ℕ, ◌+◌, Bool, true, false, List, [], ◌∷◌, ◌++◌, length, Option, Some, None, if◌then◌else◌}
 use Rattle.std.specs.List.{flat_map}
-use Rattle.core_iface.specs.Decoding.{Definitions}
 use Rattle.latm.specs.declared.mux_config.MuxConfig.{MuxConfig}
 use Rattle.usac_frame.specs.declared.frame.Frame.{Frame as UsacFrame}
 use Rattle.usac_cfg.specs.declared.usac_config.UsacConfig.{UsacConfig}
@@ -15,8 +14,7 @@ use Rattle.tool_text.specs.MuxLine.{lines_of_mux}
 use Rattle.tool_text.specs.FrameLine.{frame_line}
 use Rattle.tool_text.specs.PreRollLines.{bad_line, lines_of_preroll}
 use Rattle.au_stream.specs.Frames.{Frame, config_of}
-use Rattle.xheaac_tool.specs.Commands.{Command, ClosesSilently}
-use Rattle.xheaac_tool.specs.Jobs.{Job}
+use Rattle.commands.specs.Commands.{Command, RefusesNoEnd, ClosesSilently, feeds_none}
 use Rattle.xheaac_tool.specs.Output.{IsTooShort}
 
 -- lines one after another
@@ -59,14 +57,10 @@ abbrev pub shown_from : ℕ → List Frame → List ℕ
 shown_from number [] = []
 shown_from number (f ∷ fs) = shown_of number f ++ shown_from (number + 1) fs
 
--- `show` refuses a frame that is too short, and feeds none.
-abbrev pub showing : Command
-showing = record { Refuses = IsTooShort; output = shown_from 0; Closes = ClosesSilently; feeds = false }
+-- the lines of the StreamMuxConfig that a frame opens with
+abbrev pub opening_of : List Frame → Frame → List ℕ
+opening_of before f = mux_where f.opens f.mux
 
-abbrev pub show_job : Definitions → Job
-show_job d = record {
-  command = showing;
-  step = λ before ready f. ready;
-  bytes = λ before ready f. shown_of (length before) f;
-  Needs = λ ready. Unit {0};
-}
+-- `show` writes them before it judges the frame, refuses a frame that is too short, and feeds none.
+abbrev pub showing : Command
+showing = record { within = None; opening = opening_of; Refuses = IsTooShort; output = shown_from 0; RefusesEnd = RefusesNoEnd; Closes = ClosesSilently; plays = false; units = feeds_none; Serves = λ f. Unit {0} }

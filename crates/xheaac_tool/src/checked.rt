@@ -6,17 +6,15 @@ ghost use Rattle.usac_frame.specs.Frame.{FitsConfig};
 ghost use Rattle.au_stream.specs.Script.{most_bytes};
 ghost use Rattle.xheaac_tool.specs.Counting.{HoldsCounts, AreFew, counted, EndsBy, KeepsRules, BreaksRule};
 
-use crate::frame_end::FrameEnd;
-use crate::give::give_all;
-use crate::task::Task;
 use crate::unit_frame::read_unit_frame;
 use au_stream::Event;
+use commands::{FrameEnd, Task, give_all};
 use core_iface::Core;
 use latm::MuxConfig;
-use outside::{DeviceFault, Sink};
+use outside::Sink;
 use preroll::{CarryFault, carried};
 use std::alloc::{AllocError, Global};
-use tool_text::{carry_refusal, check_line};
+use tool_text::{Within, carry_refusal, check_line};
 use usac_cfg::UsacConfig;
 use usac_frame::{Frame, is_immediate};
 
@@ -95,14 +93,21 @@ fn judge(
 }
 
 impl Task for Check {
-    ghost use Rattle.xheaac_tool.specs.Checking.{check_job};
+    ghost use Rattle.std.specs.Prelude.{false};
+    ghost use Rattle.xheaac_tool.specs.Checking.{checking};
     ghost use Rattle.xheaac_tool.specs.Counting.{HoldsCounts};
 
-    ghost job = { check_job };
+    ghost At = { Unit {0} };
 
-    ghost serves = { λ d f. Unit {0} };
+    ghost first = { λ task. tt };
 
-    ghost Holds = { HoldsCounts };
+    ghost command = { λ at d. checking };
+
+    ghost then = { λ at frames. at };
+
+    ghost plays = { false };
+
+    ghost Stands = { λ d at frames task ready. HoldsCounts task frames };
 
     /// Judges a frame and counts it. Nothing is written.
     fn handle<K: Sink, C: Core>(
@@ -124,19 +129,26 @@ impl Task for Check {
     }
 
     /// Writes the line of what was counted.
-    fn close<K: Sink, C: Core>(&self, alloc: Global, out: &mut K) -> Result<(), DeviceFault> {
-        let line = match check_line(
+    fn close<K: Sink, C: Core>(&self, alloc: Global, out: &mut K) -> Result<(), FrameEnd> {
+        let line = check_line(
             alloc,
             self.frames,
             self.configurations,
             self.independent,
             self.immediate,
-        ) {
-            Ok(line) => line,
-            Err(error) => return Err(DeviceFault::Memory(error)),
-        };
-        give_all(out, line.as_slice())
+        )?;
+        give_all(out, line.as_slice())?;
+        Ok(())
     }
 
-    fn gives_output<C: Core>() {}
+    /// Begins anew.
+    fn turn<C: Core>(&mut self) {
+        *self = Check::new();
+    }
+
+    fn within<C: Core>(&self) -> Option<Within> {
+        None
+    }
+
+    fn is_command<C: Core>() {}
 }

@@ -4,27 +4,22 @@
 //! or the core fails, what was written before. [`do_show`], [`do_check`] and [`do_play`] are the
 //! commands without their note, for a program that has its own.
 //!
-//! Beneath them, `command` goes over the frames of a file for any `task`: `shown`, `checked` and
-//! `played` are the tasks.
+//! What they share is the crate `commands`: its runners go over the frames of a file for any task, and
+//! `shown`, `checked` and `played` are the tasks.
 #![tactic(auto)]
 
 mod check;
 mod checked;
-mod command;
-mod frame_end;
-mod give;
-mod outcome;
 mod play;
 mod played;
 mod show;
 mod shown;
-mod task;
 mod top;
 mod unit_frame;
 mod words;
 
 pub use check::do_check;
-pub use outcome::Outcome;
 pub use play::do_play;
 pub use show::do_show;
-pub use top::run;
+pub use top::{run, run_line};
+pub use words::WordsFault;

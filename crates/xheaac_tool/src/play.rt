@@ -1,15 +1,14 @@
 // The command `play`.
-ghost use Rattle.std.specs.Prelude.{◌≡◌, ◌≢◌, ◌<◌, ◌≤◌, ◌+◌, ◌^◌, ℕ, List, [], Some, IsNone, IsSome, IsTrue};
-ghost use Rattle.std.specs.Io.KnownBytes.{prepend_known};
-ghost use Rattle.xheaac_tool.specs.Causes.{Caused};
-ghost use Rattle.xheaac_tool.specs.Ending.{DoesFile, OfFile, remains_of};
-ghost use Rattle.xheaac_tool.specs.Doing.{IsNotBegun};
-ghost use Rattle.xheaac_tool.specs.Words.{texts, IsPlay, file_of};
-ghost use Rattle.xheaac_tool.specs.Output.{playing, IsServed};
+ghost use Rattle.std.specs.Prelude.{◌≤◌, ◌^◌, ℕ, List, [], ◌∷◌};
+ghost use Rattle.xheaac_tool.specs.Words.{texts, IsPlay};
+ghost use Rattle.commands.specs.Worlds.{world};
+ghost use Rattle.commands.specs.Calling.{Called};
+ghost use Rattle.commands.specs.OnInput.{on_file};
+ghost use Rattle.xheaac_tool.specs.Output.{playing};
 
-use crate::command::run_file;
-use crate::outcome::Outcome;
 use crate::played::Play;
+use crate::words::{Asked, read_words};
+use commands::{Frames, Outcome, run_file};
 use core_iface::Core;
 use outside::{Shelf, Sink};
 use std::alloc::Global;
@@ -27,53 +26,14 @@ pub fn do_play<H: Shelf, K: Sink, C: Core>(
     out: &mut K,
     core: &mut C,
 ) -> Outcome
-    requires words { IsPlay (texts words.now) }
+    requires words { (file : List ℕ) × IsPlay (texts words.now) file }
     requires begun { H.begun shelf.old ≤ 2 ^ 31 }
     requires fed { (C.meaning core.old).fed ≤ 2 ^ 63 }
-
-    // Where the shelf tells the bytes of the file, they say what was written, how many units were fed, and the outcome.
-    ensures does { (text : List ℕ) → H.bytes shelf.old (file_of (texts words.now)) ≡ Some text →
-        DoesFile (playing C.does) text (remains_of (H.begun shelf.old) (H.begun shelf.new) (H.left shelf.new (H.begun shelf.old)) (Some text))
-        (record {
-          written_before = K.written out.old;
-          written_after = K.written out.new;
-          fed_before = (C.meaning core.old).fed;
-          fed_after = (C.meaning core.new).fed;
-        }) result }
-
-    // Whether it tells them or not, there are bytes that were taken of the file, and they account for all.
-    ensures taken { (taken : List ℕ)
-        × (H.bytes shelf.old (file_of (texts words.now)) ≡ prepend_known taken (remains_of (H.begun shelf.old) (H.begun shelf.new) (H.left shelf.new (H.begun shelf.old)) (H.bytes shelf.old (file_of (texts words.now)))))
-        × DoesFile (playing C.does) taken (Some [])
-        (record {
-          written_before = K.written out.old;
-          written_after = K.written out.new;
-          fed_before = (C.meaning core.old).fed;
-          fed_after = (C.meaning core.new).fed;
-        }) result }
-
-    // Where it tells that it holds no such file, nothing is done.
-    ensures missing { IsTrue (H.tells shelf.old) → IsNone (H.bytes shelf.old (file_of (texts words.now))) → IsNotBegun result × (out.new ≡ out.old) × (core.new ≡ core.old) }
-
-    // A fault is answered only where that object's count rose; every other count is as before.
-    ensures caused { Caused
-        (record { shelf = H.faults shelf.old; out = K.faults out.old; core = (C.meaning core.old).faults })
-        (record { shelf = H.faults shelf.new; out = K.faults out.new; core = (C.meaning core.new).faults }) result }
-
-    // At most one input is begun, and exactly one where all is done. Nothing else of the shelf changes.
-    ensures begun { (H.begun shelf.old ≤ H.begun shelf.new) × (H.begun shelf.new ≤ H.begun shelf.old + 1) }
-    ensures begun_once { result ≡ Outcome.Done → H.begun shelf.new ≡ H.begun shelf.old + 1 }
-    ensures names { H.bytes shelf.new ≡ H.bytes shelf.old }
-    ensures tells { H.tells shelf.new ≡ H.tells shelf.old }
-    ensures others { (id : ℕ) → id < H.begun shelf.old → H.left shelf.new id ≡ H.left shelf.old id }
-
-    // Calm objects stay calm, and answer no fault where the file is held and its configuration served.
-    ensures calm_shelf { H.calm shelf.old → H.calm shelf.new }
-    ensures calm_out { K.calm out.old → K.calm out.new }
-    ensures calm_core { C.IsCalm core.old → C.IsCalm core.new }
-    ensures calm_reads { H.calm shelf.old → IsSome (H.bytes shelf.old (file_of (texts words.now))) → result ≢ Outcome.ReadFault }
-    ensures calm_writes { K.calm out.old → result ≢ Outcome.WriteFault }
-    ensures calm_decodes { (text : List ℕ) → H.bytes shelf.old (file_of (texts words.now)) ≡ Some text → OfFile (playing C.does) (IsServed C.does) text → C.IsCalm core.old → result ≢ Outcome.CoreFault }
+    ensures { (file : List ℕ) → IsPlay (texts words.now) file → Called (on_file (playing C.does)) (file ∷ [])
+        (world H.Shelf K.Sink C.Core shelf.old out.old core.old) (world H.Shelf K.Sink C.Core shelf.new out.new core.new) result }
 {
-    run_file(alloc, &mut Play, words[1].as_str(), shelf, out, core)
+    let Some(Asked::Play { file }) = read_words(words) else {
+        unreachable!()
+    };
+    run_file(alloc, &mut Frames(Play), file, shelf, out, core)
 }

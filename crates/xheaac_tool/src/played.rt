@@ -10,19 +10,16 @@ ghost use Rattle.au_stream.specs.Frames.{Frame as StreamFrame, config_of};
 ghost use Rattle.au_stream.specs.Events.{IsEvent};
 ghost use Rattle.xheaac_tool.specs.Output.{at_frame, IsLater, IsNoStart};
 ghost use Rattle.xheaac_tool.specs.Reading.{IsJudgement, Judges};
-ghost use Rattle.xheaac_tool.specs.Stepping.{set_up};
-ghost use Rattle.xheaac_tool.specs.OneFrame.{Decodes, IsOpenable, ServesReset};
+ghost use Rattle.xheaac_tool.specs.Stepping.{Decodes, IsOpenable, ServesReset};
 
-use crate::frame_end::FrameEnd;
-use crate::give::give_all;
-use crate::task::Task;
 use crate::unit_frame::read_unit_frame;
 use au_stream::Event;
+use commands::{FrameEnd, Task, give_all};
 use core_iface::{Core, CoreFault, Unit, push_sample_bytes};
 use latm::MuxConfig;
-use outside::{DeviceFault, Sink};
+use outside::Sink;
 use std::alloc::Global;
-use tool_text::{Place, Reason, Refusal};
+use tool_text::{Place, Reason, Refusal, Within};
 use usac_cfg::UsacConfig;
 use usac_frame::{Frame, payload_length, unit_of};
 
@@ -114,14 +111,21 @@ fn decode<C: Core>(
 }
 
 impl Task for Play {
-    ghost use Rattle.xheaac_tool.specs.Stepping.{play_job};
-    ghost use Rattle.xheaac_tool.specs.Output.{IsServed};
+    ghost use Rattle.std.specs.Prelude.{true};
+    ghost use Rattle.xheaac_tool.specs.Output.{playing};
+    ghost use Rattle.xheaac_tool.specs.Stepping.{PlayStands};
 
-    ghost job = { play_job };
+    ghost At = { Unit {0} };
 
-    ghost serves = { IsServed };
+    ghost first = { λ task. tt };
 
-    ghost Holds = { λ task frames. Unit {0} };
+    ghost command = { λ at d. playing d };
+
+    ghost then = { λ at frames. at };
+
+    ghost plays = { true };
+
+    ghost Stands = { λ d at frames task ready. PlayStands d frames ready };
 
     /// Plays a frame: its samples are one write.
     fn handle<K: Sink, C: Core>(
@@ -144,11 +148,18 @@ impl Task for Play {
     }
 
     /// Writes nothing.
-    fn close<K: Sink, C: Core>(&self, alloc: Global, out: &mut K) -> Result<(), DeviceFault> {
+    fn close<K: Sink, C: Core>(&self, alloc: Global, out: &mut K) -> Result<(), FrameEnd> {
         let _ = alloc;
         let _ = out;
         Ok(())
     }
 
-    fn gives_output<C: Core>() {}
+    /// The next file is played from its start.
+    fn turn<C: Core>(&mut self) {}
+
+    fn within<C: Core>(&self) -> Option<Within> {
+        None
+    }
+
+    fn is_command<C: Core>() {}
 }

@@ -3,25 +3,24 @@ ghost use Rattle.std.specs.Prelude.{◌≡◌, ◌≤◌, ◌++◌, length, IfOk
 ghost use Rattle.std.specs.Io.KnownBytes.{append_known};
 ghost use Rattle.causes.specs.Counts.{HasCause};
 ghost use Rattle.latm.specs.MuxConfig.{IsWellFormed};
+ghost use Rattle.usac_cfg.specs.UsacConfig.{IsWellFormed as IsConfig};
 ghost use Rattle.outside.specs.Answers.{has_failed, IsFailed};
 ghost use Rattle.usac_frame.specs.Frame.{FitsConfig};
 ghost use Rattle.usac_frame.specs.Units.{first_payload};
 ghost use Rattle.tool_text.specs.FrameLine.{frame_line};
-ghost use Rattle.xheaac_tool.specs.Handing.{WrotePart};
+ghost use Rattle.commands.specs.Handing.{WrotePart};
 ghost use Rattle.xheaac_tool.specs.Showing.{joined, mux_where, payload_lines, preroll_where, frame_text};
 
-use crate::frame_end::FrameEnd;
-use crate::give::give_all;
-use crate::task::Task;
 use crate::unit_frame::read_unit_frame;
 use au_stream::Event;
+use commands::{FrameEnd, Task, give_all};
 use bit_core::{Items, Octets};
 use core_iface::Core;
 use latm::MuxConfig;
 use outside::{DeviceFault, Sink};
 use preroll::{PreFault, read_preroll};
 use std::alloc::{AllocError, Global};
-use tool_text::{bad_preroll_line, frame_line, mux_lines, preroll_lines};
+use tool_text::{Within, bad_preroll_line, frame_line, mux_lines, preroll_lines};
 use usac_cfg::UsacConfig;
 use usac_frame::{Frame, first_payload, is_immediate};
 
@@ -128,37 +127,43 @@ fn give_preroll<K: Sink>(
     give_lines(out, lines.as_slice())
 }
 
-/// Writes the lines of a frame, each in one write. A fault may come behind a part of them.
+/// Writes the line of a frame and those of its preroll, each in one write. A fault may come behind a part of them.
 fn give_frame<K: Sink>(
     alloc: Global,
     event: &Event,
-    mux: &MuxConfig,
+    config: &UsacConfig,
     frame: &Frame,
     out: &mut K,
 ) -> Result<(), DeviceFault>
-    requires well_formed { IsWellFormed mux.now }
-    requires fits { FitsConfig mux.now.asc.usac frame.now }
-    ensures ok { OnOk result (K.written out.new ≡ append_known (K.written out.old) (mux_where event.now.opens mux.now ++ frame_text mux.now.asc.usac event.now.frame (length event.now.au) frame.now)) }
-    ensures err { OnErr result (WrotePart (K.written out.old) (K.written out.new) (mux_where event.now.opens mux.now ++ frame_text mux.now.asc.usac event.now.frame (length event.now.au) frame.now)) }
+    requires well_formed { IsConfig config.now }
+    requires fits { FitsConfig config.now frame.now }
+    ensures ok { OnOk result (K.written out.new ≡ append_known (K.written out.old) (frame_text config.now event.now.frame (length event.now.au) frame.now)) }
+    ensures err { OnErr result (WrotePart (K.written out.old) (K.written out.new) (frame_text config.now event.now.frame (length event.now.au) frame.now)) }
     ensures cause { HasCause (has_failed result) (K.faults out.old) (K.faults out.new) }
     ensures calm { K.calm out.old → K.calm out.new }
     ensures calm_answers { K.calm out.old → IsFailed result → ⊥ }
 {
-    give_mux(alloc, event.opens, mux, out)?;
     give_line(alloc, event, frame, out)?;
-    give_preroll(alloc, &mux.asc.usac, frame, out)
+    give_preroll(alloc, config, frame, out)
 }
 
 impl Task for Show {
-    ghost use Rattle.xheaac_tool.specs.Showing.{show_job};
+    ghost use Rattle.std.specs.Prelude.{false};
+    ghost use Rattle.xheaac_tool.specs.Showing.{showing};
 
-    ghost job = { show_job };
+    ghost At = { Unit {0} };
 
-    ghost serves = { λ d f. Unit {0} };
+    ghost first = { λ task. tt };
 
-    ghost Holds = { λ task frames. Unit {0} };
+    ghost command = { λ at d. showing };
 
-    /// Shows a frame: each line is one write.
+    ghost then = { λ at frames. at };
+
+    ghost plays = { false };
+
+    ghost Stands = { λ d at frames task ready. Unit {0} };
+
+    /// Shows what a frame puts in force, and then the frame: each line is one write.
     fn handle<K: Sink, C: Core>(
         &mut self,
         alloc: Global,
@@ -169,17 +174,25 @@ impl Task for Show {
     ) -> Result<(), FrameEnd> {
         let _ = core;
         let config = &mux.asc.usac;
+        give_mux(alloc, event.opens, mux, out)?;
         let frame = read_unit_frame(alloc, event.frame, config, event.au.as_slice())?;
-        give_frame(alloc, event, mux, &frame, out)?;
+        give_frame(alloc, event, config, &frame, out)?;
         Ok(())
     }
 
     /// Writes nothing.
-    fn close<K: Sink, C: Core>(&self, alloc: Global, out: &mut K) -> Result<(), DeviceFault> {
+    fn close<K: Sink, C: Core>(&self, alloc: Global, out: &mut K) -> Result<(), FrameEnd> {
         let _ = alloc;
         let _ = out;
         Ok(())
     }
 
-    fn gives_output<C: Core>() {}
+    /// Begins anew.
+    fn turn<C: Core>(&mut self) {}
+
+    fn within<C: Core>(&self) -> Option<Within> {
+        None
+    }
+
+    fn is_command<C: Core>() {}
 }

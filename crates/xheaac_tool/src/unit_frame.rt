@@ -2,7 +2,7 @@
 ghost use Rattle.std.specs.Prelude.{◌≤◌, length, IfErr};
 ghost use Rattle.xheaac_tool.specs.Reading.{ReadsUnit, IsJudgement};
 
-use crate::frame_end::FrameEnd;
+use commands::FrameEnd;
 use std::alloc::Global;
 use tool_text::{Place, Reason, Refusal};
 use usac_cfg::UsacConfig;

@@ -4,6 +4,19 @@ ghost use Rattle.std.specs.Prelude.{◌≡◌};
 ghost use Rattle.xheaac_tool.specs.Asked.{asked};
 ghost use Rattle.xheaac_tool.specs.Words.{case_of, texts};
 
+use std::alloc::AllocError;
+use thiserror::Error;
+
+/// Why the words of a command line cannot be had.
+#[derive(Debug, Drop, Error)]
+pub enum WordsFault {
+    /// A word is not UTF-8.
+    #[error("not text")]
+    NotText,
+    #[error("out of memory")]
+    Memory(AllocError),
+}
+
 /// What the words ask for.
 #[derive(Clone, Copy)]
 pub enum Asked<'a> {

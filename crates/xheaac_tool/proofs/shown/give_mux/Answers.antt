@@ -1,4 +1,4 @@
-use Rattle.std.proofs.Common.{◌≡◌, List, ℕ, Bool, true, ◌∙◌, ap}
+use Rattle.std.proofs.Common.{◌∙◌}
 use Rattle.std.proofs.lemmas.Result.{on_ok_weaker, on_err_weaker}
 use Rattle.xheaac_tool.proofs.Lines.{lines_all, lines_part}
 use Rattle.xheaac_tool.proofs.shown.give_mux.Goals as goal

@@ -1,6 +1,6 @@
 use Rattle.std.proofs.Common.{List, ℕ, sym, ap, subst, ◌∙◌}
 use Rattle.std.proofs.lemmas.Result.{on_err_weaker}
-use Rattle.xheaac_tool.specs.Handing.{WrotePart}
+use Rattle.commands.specs.Handing.{WrotePart}
 use Rattle.xheaac_tool.specs.Showing.{payload_lines}
 use Rattle.xheaac_tool.proofs.Lines.{preroll_all}
 use Rattle.xheaac_tool.proofs.shown.give_preroll.Goals as goal

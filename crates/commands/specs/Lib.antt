@@ -1,0 +1,14 @@
+pub mod Commands
+pub mod Handing
+pub mod OneFrame
+pub mod Texts
+pub mod Causes
+pub mod Ending
+pub mod Doing
+pub mod Worlds
+pub mod Calling
+pub mod OnInput
+pub mod OnInputs
+pub mod OnNone
+pub mod Wholes
+pub mod Ran

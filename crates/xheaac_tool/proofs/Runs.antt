@@ -1,0 +1,1 @@
+-- What the top call answers, from what its command did.
