@@ -53,11 +53,7 @@ fn stopped_by(alloc: Global, within: Option<Within>, end: FrameEnd) -> Outcome
 }
 
 /// How the command ends at the end of the stream.
-pub fn closed_by(
-    alloc: Global,
-    within: Option<Within>,
-    answer: Result<(), FrameEnd>,
-) -> Outcome
+pub fn closed_by(alloc: Global, within: Option<Within>, answer: Result<(), FrameEnd>) -> Outcome
     ensures { BecomesOfEnd within answer result }
 {
     match answer {

@@ -10,8 +10,9 @@ mod inputs;
 mod note;
 mod outcome;
 mod pieces;
-
 mod task;
+#[cfg(test)]
+mod tests;
 mod whole;
 
 pub use alone::{Alone, run_none};
@@ -23,6 +24,5 @@ pub use inputs::{Inputs, run_files};
 pub use note::{OUT_OF_MEMORY, finish, report};
 pub use outcome::Outcome;
 pub use pieces::PieceFrames;
-
 pub use task::Task;
 pub use whole::{Whole, WholeInput};

@@ -4,8 +4,8 @@ ghost use Rattle.latm.specs.Stream.{IsWellFormed};
 ghost use Rattle.commands.specs.OneFrame.{CausedBy, HandlesEnd};
 ghost use Rattle.commands.specs.Wholes.{WholeCommand};
 
-use crate::frames::{closed_by, ended_by};
 use crate::frame_end::FrameEnd;
+use crate::frames::{closed_by, ended_by};
 use crate::input::Input;
 use crate::outcome::Outcome;
 use au_stream::read_stream;

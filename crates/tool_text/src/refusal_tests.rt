@@ -1,4 +1,6 @@
-use crate::{Place, Reason, Refusal, Within, carry_refusal, loas_refusal, mux_refusal, refusal_line};
+use crate::{
+    Place, Reason, Refusal, Within, carry_refusal, loas_refusal, mux_refusal, refusal_line,
+};
 use asc::AscFault;
 use latm::{MuxFault, MuxField};
 use loas::LoasFault;
@@ -183,7 +185,10 @@ fn a_refusal_names_its_input(rt: HostRuntime) -> Result<(), Fail> {
         reason: Reason::NotIndependent,
     };
     let line = refusal_line(alloc, Some(Within::Piece(63)), &refusal)?;
-    assert_eq!(rt; line.as_slice(), b"refused: piece 63: frame 7: not independent\n");
+    assert_eq!(rt;
+        line.as_slice(),
+        b"refused: piece 63: frame 7: not independent\n"
+    );
     let refusal = Refusal {
         place: Place::Whole,
         reason: Reason::NotIndependent,

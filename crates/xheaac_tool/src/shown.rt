@@ -13,8 +13,8 @@ ghost use Rattle.xheaac_tool.specs.Showing.{joined, mux_where, payload_lines, pr
 
 use crate::unit_frame::read_unit_frame;
 use au_stream::Event;
-use commands::{FrameEnd, Task, give_all};
 use bit_core::{Items, Octets};
+use commands::{FrameEnd, Task, give_all};
 use core_iface::Core;
 use latm::MuxConfig;
 use outside::{DeviceFault, Sink};

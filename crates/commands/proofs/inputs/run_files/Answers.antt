@@ -9,20 +9,24 @@ use Rattle.commands.proofs.inputs.run_files.Goals as goal
 
 pub loop-name-init : goal.loop-name-init
 loop-name-init g c = record {
-  so_far = λ from ready. (from, ready, record {
-    taken = [];
-    number = refl;
-    taken_of = tt;
-    begun = omega arith;
-    told = λ texts held. told_start _ _ _ _ texts _ _ held;
-    alone = (refl, record { written = refl; fed = refl });
-    held = λ tells. tt;
-    first = λ none. (refl, refl);
-    faults = refl;
-    keeps = record { names = refl; tells = refl; others = λ id lt. refl; calm_shelf = λ h. h; calm_out = λ h. h; calm_core = λ h. h };
-    untouched = λ h. refl;
-    fed = omega arith;
-  });
+  so_far = λ from ready. (
+    from,
+    ready,
+    record {
+      taken = [];
+      number = refl;
+      taken_of = tt;
+      begun = omega arith;
+      told = λ texts held. told_start _ _ _ _ texts _ _ held;
+      alone = (refl, record { written = refl; fed = refl });
+      held = λ tells. tt;
+      first = λ none. (refl, refl);
+      faults = refl;
+      keeps = record { names = refl; tells = refl; others = λ id lt. refl; calm_shelf = λ h. h; calm_out = λ h. h; calm_core = λ h. h };
+      untouched = λ h. refl;
+      fed = omega arith;
+    },
+  );
 }
 
 pub returns : goal.returns
@@ -111,28 +115,31 @@ loop-name-preserved g c =
     record {
       so_far = λ from start.
           let so = c.loop-name.invariant.so_far from start in
-          let leads = r.does so.0 so.1 in
-          (leads.next, leads.ready refl, rw (names_done (λ name. name.now) c.args.names.now i (record { ref_ptr = (0, 0); now = [] }) lt) (passed_here (g.I.Inputs.does g.C.Core.does) _ _ _ _ _ _ _ (names_all (λ name. name.now) c.args.names.now i) so.2 _ _ _ _ (names_next (λ name. name.now) c.args.names.now i (record { ref_ptr = (0, 0); now = [] }) lt)
-          (record {
-            left = g.H.Shelf.left c.begin.new.self c.in-Ok.id;
-            start = ap (g.H.Shelf.left c.begin.new.self) id-is ∙ b.start;
-            does = subst (λ (n : ℕ). DoesSource (EndsAt (g.I.Inputs.does g.C.Core.does) so.0 leads.next) (g.H.Shelf.left c.begin.new.self c.in-Ok.id) (g.H.Shelf.left c.run_next.new.shelf n) (record { written_before = g.K.Sink.written c.loop-name.out; written_after = g.K.Sink.written c.run_next.new.out; fed_before = (g.C.Core.meaning c.loop-name.core).fed; fed_after = (g.C.Core.meaning c.run_next.new.core).fed }) is.Done) id-is leads.does;
-            begun = r.begun ∙ b.begun;
-            held = b.held;
-            caused = search rules;
-            keeps = record {
-              names = r.names ∙ b.names;
-              tells = r.tells ∙ b.tells;
-              others = λ id lt. left_of_others c.in-Ok.id (g.H.Shelf.begun c.loop-name.shelf) id (g.H.Shelf.left c.loop-name.shelf) (g.H.Shelf.left c.begin.new.self) (g.H.Shelf.left c.run_next.new.shelf) id-is lt (b.others id lt) r.others;
-              calm_shelf = search rules;
-              calm_out = search rules;
-              calm_core = search rules;
-            };
-            few = r.few;
-            untouched = r.untouched;
-            calm_reads = λ calm. r.calm_reads (b.calm calm);
-            calm_writes = r.calm_writes;
-            calm_decodes = λ text here served calm. r.calm_decodes so.0 so.1 text (ap (g.H.Shelf.left c.begin.new.self) id-is ∙ b.start ∙ here) served calm;
-            no_core = r.no_core;
-          })));
+          let leads = r.does so.0 so.1 in (
+            leads.next,
+            leads.ready refl,
+            rw (names_done (λ name. name.now) c.args.names.now i (record { ref_ptr = (0, 0); now = [] }) lt) (passed_here (g.I.Inputs.does g.C.Core.does) _ _ _ _ _ _ _ (names_all (λ name. name.now) c.args.names.now i) so.2 _ _ _ _ (names_next (λ name. name.now) c.args.names.now i (record { ref_ptr = (0, 0); now = [] }) lt)
+                (record {
+                  left = g.H.Shelf.left c.begin.new.self c.in-Ok.id;
+                  start = ap (g.H.Shelf.left c.begin.new.self) id-is ∙ b.start;
+                  does = subst (λ (n : ℕ). DoesSource (EndsAt (g.I.Inputs.does g.C.Core.does) so.0 leads.next) (g.H.Shelf.left c.begin.new.self c.in-Ok.id) (g.H.Shelf.left c.run_next.new.shelf n) (record { written_before = g.K.Sink.written c.loop-name.out; written_after = g.K.Sink.written c.run_next.new.out; fed_before = (g.C.Core.meaning c.loop-name.core).fed; fed_after = (g.C.Core.meaning c.run_next.new.core).fed }) is.Done) id-is leads.does;
+                  begun = r.begun ∙ b.begun;
+                  held = b.held;
+                  caused = search rules;
+                  keeps = record {
+                    names = r.names ∙ b.names;
+                    tells = r.tells ∙ b.tells;
+                    others = λ id lt. left_of_others c.in-Ok.id (g.H.Shelf.begun c.loop-name.shelf) id (g.H.Shelf.left c.loop-name.shelf) (g.H.Shelf.left c.begin.new.self) (g.H.Shelf.left c.run_next.new.shelf) id-is lt (b.others id lt) r.others;
+                    calm_shelf = search rules;
+                    calm_out = search rules;
+                    calm_core = search rules;
+                  };
+                  few = r.few;
+                  untouched = r.untouched;
+                  calm_reads = λ calm. r.calm_reads (b.calm calm);
+                  calm_writes = r.calm_writes;
+                  calm_decodes = λ text here served calm. r.calm_decodes so.0 so.1 text (ap (g.H.Shelf.left c.begin.new.self) id-is ∙ b.start ∙ here) served calm;
+                  no_core = r.no_core;
+                })),
+          );
     }
