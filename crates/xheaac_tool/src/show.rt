@@ -17,8 +17,8 @@ use std::alloc::Global;
 /// at a time.
 ///
 /// The file is a LOAS stream (ISO/IEC 14496-3, AudioSyncStream). It is refused where the stream is, and at a frame that is too
-/// short (ISO/IEC 23003-3, UsacFrame). The frames before that were shown. A preroll that is none is shown, and not refused. The
-/// core is left as it was.
+/// short (ISO/IEC 23003-3, UsacFrame). The frames before that were shown, and the StreamMuxConfig that it opens with. A preroll that
+/// is none is shown, and not refused. The core is left as it was.
 pub fn do_show<H: Shelf, K: Sink, C: Core>(
     alloc: Global,
     words: &[String],
