@@ -1,10 +1,10 @@
 -- What is true of a layout that takes all of a text, and of a call that reads a text from its first bit.
-use Rattle.std.proofs.Common.{◌≡◌, Bool, List, Some, Result, Ok, Err, refl, sym, ap, subst, ◌∙◌, inl, inr}
+use Rattle.std.proofs.Common.{◌≡◌, Bool, List, Some, None, Result, Ok, Err, refl, sym, ap, subst, ◌∙◌, inl, inr}
 use Rattle.std.specs.Prelude.{◌⊎◌}
 use Rattle.layout.specs.Reader.{Reader}
 use Rattle.layout.specs.Layout.{Layout}
 use Rattle.layout.specs.Exact.{IsExactToEnd}
-use Rattle.layout.specs.Laws.{SpellsOnce, IsSpelling, IsDecidedWhole, value_read, IsValueOf}
+use Rattle.layout.specs.Laws.{SpellsOnce, IsSpelling, IsDecidedWhole, value_in, fault_in, IsValueOf, IsFaultOf}
 use Rattle.layout.specs.Reading.{GivesUnless, ReadsAllUnless, ReadsText}
 use Rattle.layout.proofs.Layouts.{ok_is, err_is, some_is}
 use Rattle.layout.proofs.ToEnd.{reads_all_unless, all_unless_back}
@@ -50,14 +50,32 @@ decided_whole L l = record { one_of = one_of L l; not_both = not_both L l; one_f
 
 -- ---- the value that a text spells
 
-read_is : {A F : Type 0} (L : Layout A F) → IsExactToEnd L → (t : List Bool) (v : A) (q : Result (A × Reader) F) → L.read (start t) ≡ q → value_read q ≡ Some v → L.Fits v × (t ≡ L.spelling v)
-read_is {A} L l t v (Ok x) is e =
-    let took = l.takes (start t) x.1 x.0 is in
-    subst (λ (w : A). L.Fits w × (t ≡ L.spelling w)) (some_is x.0 v e) (took.0, took.1)
-read_is L l t v (Err f) is never = absurd cc
+value_is : {A F : Type 0} (L : Layout A F) (t : List Bool) (v : A) (q : IsSpelling L t ⊎ ((f : F) × L.Faults 0 f t)) → value_in L t q ≡ Some v → L.Fits v × (t ≡ L.spelling v)
+value_is {A} L t v (inl s) e = subst (λ (w : A). L.Fits w × (t ≡ L.spelling w)) (some_is s.0 v e) (s.1, s.2)
+value_is L t v (inr bad) never = absurd cc
 
-pub value_of_is : {A F : Type 0} (L : Layout A F) → IsExactToEnd L → IsValueOf L
-value_of_is L l = record {
-  is = λ t v e. read_is L l t v (L.read (start t)) refl e;
-  found = λ t v fits e. ap value_read (l.again (start t) v fits e);
+value_found : {A F : Type 0} (L : Layout A F) → IsDecidedWhole L → SpellsOnce L → (t : List Bool) (v : A) (q : IsSpelling L t ⊎ ((f : F) × L.Faults 0 f t)) → L.Fits v → t ≡ L.spelling v → value_in L t q ≡ Some v
+value_found {A} L d once t v (inl s) fits e = ap (λ (w : A). Some w) (once s.0 v s.1 fits (sym s.2 ∙ e))
+value_found L d once t v (inr bad) fits e = absurd (d.not_both t bad.0 (v, fits, e) bad.1)
+
+value_none : {A F : Type 0} (L : Layout A F) → IsDecidedWhole L → (t : List Bool) (f : F) (q : IsSpelling L t ⊎ ((g : F) × L.Faults 0 g t)) → L.Faults 0 f t → value_in L t q ≡ None
+value_none L d t f (inl s) bad = absurd (d.not_both t f s bad)
+value_none L d t f (inr other) bad = refl
+
+pub value_of_is : {A F : Type 0} (L : Layout A F) (d : IsDecidedWhole L) → SpellsOnce L → IsValueOf L d
+value_of_is L d once = record {
+  is = λ t v e. value_is L t v (d.one_of t) e;
+  found = λ t v fits e. value_found L d once t v (d.one_of t) fits e;
+  none = λ t f bad. value_none L d t f (d.one_of t) bad;
 }
+
+fault_is : {A F : Type 0} (L : Layout A F) (t : List Bool) (f : F) (q : IsSpelling L t ⊎ ((g : F) × L.Faults 0 g t)) → fault_in L t q ≡ Some f → L.Faults 0 f t
+fault_is L t f (inl s) never = absurd cc
+fault_is {F = F} L t f (inr bad) e = subst (λ (g : F). L.Faults 0 g t) (some_is bad.0 f e) bad.1
+
+fault_found : {A F : Type 0} (L : Layout A F) → IsDecidedWhole L → (t : List Bool) (f : F) (q : IsSpelling L t ⊎ ((g : F) × L.Faults 0 g t)) → L.Faults 0 f t → fault_in L t q ≡ Some f
+fault_found L d t f (inl s) bad = absurd (d.not_both t f s bad)
+fault_found {F = F} L d t f (inr other) bad = ap (λ (g : F). Some g) (d.one_fault t other.0 f other.1 bad)
+
+pub fault_of_is : {A F : Type 0} (L : Layout A F) (d : IsDecidedWhole L) → IsFaultOf L d
+fault_of_is L d = record { is = λ t f e. fault_is L t f (d.one_of t) e; found = λ t f bad. fault_found L d t f (d.one_of t) bad }

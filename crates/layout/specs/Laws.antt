@@ -1,5 +1,6 @@
 -- What is true of every layout that is read exactly.
 use Rattle.std.specs.Prelude.{◌≡◌, ◌⊎◌, Bool, List, ◌++◌, Option, Some, None, Result, Ok, Err, OnErr}
+use Rattle.std.proofs.Common.{inl, inr}
 use Rattle.layout.specs.Reader.{Reader}
 use Rattle.layout.specs.Layout.{Layout}
 use Rattle.layout.specs.Reading.{Gives, GivesUnless, Reads, ReadsUnless}
@@ -35,18 +36,31 @@ pub record IsDecidedWhole {A F : Type 0} (L : Layout A F) : Type 0 where
   pub not_both : (t : List Bool) (f : F) → IsSpelling L t → L.Faults 0 f t → ⊥
   pub one_fault : (t : List Bool) (f g : F) → L.Faults 0 f t → L.Faults 0 g t → f ≡ g
 
-abbrev pub value_read : {A F : Type 0} → Result (A × Reader) F → Option A
-value_read (Ok x) = Some x.0
-value_read (Err f) = None
+abbrev pub value_in : {A F : Type 0} (L : Layout A F) (t : List Bool) → IsSpelling L t ⊎ ((f : F) × L.Faults 0 f t) → Option A
+value_in L t (inl spelled) = Some spelled.0
+value_in L t (inr bad) = None
 
--- The value whose spelling a text is, if there is one: what the layout reads of it. `IsValueOf` says that this is so.
-abbrev pub value_of : {A F : Type 0} → Layout A F → List Bool → Option A
-value_of L t = value_read (L.read (record { text = t; at = 0 }))
+abbrev pub fault_in : {A F : Type 0} (L : Layout A F) (t : List Bool) → IsSpelling L t ⊎ ((f : F) × L.Faults 0 f t) → Option F
+fault_in L t (inl spelled) = None
+fault_in L t (inr bad) = Some bad.0
+
+-- The value whose spelling a text is, if there is one; else the fault of the text. It is decided which of the two there is.
+abbrev pub value_of : {A F : Type 0} (L : Layout A F) → IsDecidedWhole L → List Bool → Option A
+value_of L d t = value_in L t (d.one_of t)
+
+abbrev pub fault_of : {A F : Type 0} (L : Layout A F) → IsDecidedWhole L → List Bool → Option F
+fault_of L d t = fault_in L t (d.one_of t)
 
 -- It is that value exactly where the text is its spelling.
-pub record IsValueOf {A F : Type 0} (L : Layout A F) : Type 0 where
-  pub is : (t : List Bool) (v : A) → value_of L t ≡ Some v → L.Fits v × (t ≡ L.spelling v)
-  pub found : (t : List Bool) (v : A) → L.Fits v → t ≡ L.spelling v → value_of L t ≡ Some v
+pub record IsValueOf {A F : Type 0} (L : Layout A F) (d : IsDecidedWhole L) : Type 0 where
+  pub is : (t : List Bool) (v : A) → value_of L d t ≡ Some v → L.Fits v × (t ≡ L.spelling v)
+  pub found : (t : List Bool) (v : A) → L.Fits v → t ≡ L.spelling v → value_of L d t ≡ Some v
+  pub none : (t : List Bool) (f : F) → L.Faults 0 f t → value_of L d t ≡ None
+
+-- It is that fault exactly where the text has it.
+pub record IsFaultOf {A F : Type 0} (L : Layout A F) (d : IsDecidedWhole L) : Type 0 where
+  pub is : (t : List Bool) (f : F) → fault_of L d t ≡ Some f → L.Faults 0 f t
+  pub found : (t : List Bool) (f : F) → L.Faults 0 f t → fault_of L d t ≡ Some f
 
 -- What a call gives by the reading function, going back where it failed, is what a reader promises.
 abbrev pub IsRead : {A F : Type 0} → Layout A F → Type 0

@@ -11,7 +11,8 @@ use Rattle.usac_frame.specs.declared.fault.FrameFault.TheVariants as frames
 use Rattle.usac_frame.specs.declared.frame.Frame.{Frame}
 use Rattle.usac_frame.specs.AccessUnit.{unit_in}
 use Rattle.usac_frame.specs.Frame.{FrameFaults}
-use Rattle.usac_frame.specs.FrameExact.{frame_of_is, decided as frames_decided}
+use Rattle.usac_frame.specs.FrameExact.{decided as frames_decided}
+use Rattle.usac_frame.specs.FrameFound.{frame_of_is}
 use Rattle.usac_frame.specs.Units.{UnitValue, first_payload}
 use Rattle.preroll.specs.declared.fault.PreFault.{PreFault}
 use Rattle.preroll.specs.declared.fault.PreFault.TheVariants as faults

@@ -9,7 +9,7 @@ use Rattle.usac_frame.specs.Units.{first_payload}
 use Rattle.preroll.specs.declared.preroll.PreRoll.{PreRoll}
 use Rattle.preroll.specs.declared.fault.CarryFault.{CarryFault}
 use Rattle.preroll.specs.declared.fault.CarryFault.TheVariants.{NotImmediate, Split, BadPreroll, BadConfig, ConfigDiffers, BadUnit, Nested, FirstDependent, Memory}
-use Rattle.preroll.specs.PreRoll.{preroll_of}
+use Rattle.preroll.specs.Payload.{preroll_of}
 use Rattle.preroll.specs.Carried.{HasPreRoll, Breaks, rule}
 
 -- what a fault says besides its rule

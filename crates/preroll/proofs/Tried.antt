@@ -7,7 +7,8 @@ use Rattle.layout.proofs.Layouts.{some_is}
 use Rattle.usac_cfg.specs.declared.usac_config.UsacConfig.{UsacConfig}
 use Rattle.usac_frame.specs.declared.fault.FrameFault.TheVariants as frames
 use Rattle.usac_frame.specs.declared.frame.Frame.{Frame}
-use Rattle.usac_frame.specs.FrameExact.{frame_of_is, decided as frames_decided}
+use Rattle.usac_frame.specs.FrameExact.{decided as frames_decided}
+use Rattle.usac_frame.specs.FrameFound.{frame_of_is}
 use Rattle.usac_frame.specs.Units.{UnitValue, unit_of, payload_length, first_payload, is_whole}
 use Rattle.preroll.specs.declared.preroll.PreRoll.{PreRoll}
 use Rattle.preroll.specs.declared.fault.PreFault.{PreFault}
@@ -15,8 +16,10 @@ use Rattle.preroll.specs.declared.fault.PreFault.TheVariants as faults
 use Rattle.preroll.specs.declared.fault.CarryFault.{CarryFault}
 use Rattle.preroll.specs.declared.fault.CarryFault.TheVariants.{NotImmediate, Split, BadPreroll, BadConfig, ConfigDiffers, BadUnit, Nested, FirstDependent, Memory}
 use Rattle.preroll.specs.Faults.{is_memory, is_want, from_preroll}
-use Rattle.preroll.specs.PreRoll.{preroll_text, preroll_of, PreRollFaults, IsWellFormed}
-use Rattle.preroll.specs.PreRollExact.{decided, preroll_of_is}
+use Rattle.preroll.specs.PreRoll.{preroll_text, PreRollFaults, IsWellFormed}
+use Rattle.preroll.specs.Payload.{preroll_of}
+use Rattle.preroll.specs.PreRollExact.{decided}
+use Rattle.preroll.specs.PayloadFound.{preroll_of_is}
 use Rattle.preroll.specs.Carried.{IsNoConfig, IsOtherConfig, IsAFrame, IsShortUnit, IsNestedUnit, starts_independent, preroll_bytes, IsFirst, Carries}
 use Rattle.preroll.specs.Steps.{IsOpened, AreFrames, AreCarried, IsConfigFault, IsUnitFault, HaveNoPreRoll, IsNestedFault, first_independent}
 use Rattle.preroll.proofs.UnitFrames.{all_frames, units_are, starts_are, none_nested, is_nested}
@@ -32,7 +35,7 @@ pub is_opened : (c : UsacConfig) (f : Frame) (p : PreRoll) (payload : List ℕ) 
 is_opened c f p payload some whole same fits spelled = record {
   some = some;
   whole = whole;
-  is = sym (ap preroll_of same) ∙ preroll_of_is.found (bits_of payload) p fits spelled;
+  is = sym (ap preroll_of same) ∙ preroll_of_is.found payload p fits spelled;
 }
 
 pub pass_3 : (c : UsacConfig) (f : Frame) → (payload_length c f ≡ 0 → ⊥) → is_whole f ≡ true → Passes c f 3
@@ -42,7 +45,7 @@ pass_3 c f some whole =
 
 pub pass_4 : (c : UsacConfig) (f : Frame) (p : PreRoll) → IsOpened c f p → Passes c f 4
 pass_4 c f p o =
-    let v = preroll_of_is.is (bits_of (first_payload f)) p o.is in
+    let v = preroll_of_is.is (first_payload f) p o.is in
     next 3 c f (omega arith) (pass_3 c f o.some o.whole) (λ k at b. decided.not_both (bits_of (first_payload f)) (faults.Short at) (p, v.0, v.1) b)
 
 pub pass_5 : (c : UsacConfig) (f : Frame) (p : PreRoll) → IsOpened c f p → (IsNoConfig p.config → ⊥) → Passes c f 5
@@ -117,4 +120,4 @@ dependent_first c f p fs o tried are first = record { breaks = (p, o.is, sym (st
 
 -- what an opened preroll is
 pub is_well_formed : (c : UsacConfig) (f : Frame) (p : PreRoll) → IsOpened c f p → IsWellFormed p
-is_well_formed c f p o = (preroll_of_is.is (bits_of (first_payload f)) p o.is).0
+is_well_formed c f p o = (preroll_of_is.is (first_payload f) p o.is).0

@@ -11,7 +11,7 @@ use Rattle.usac_frame.specs.declared.fault.FrameFault.TheVariants as frames
 use Rattle.usac_frame.specs.declared.frame.Frame.{Frame}
 use Rattle.usac_frame.specs.AccessUnit.{frame_of, unit_in, unit_where}
 use Rattle.usac_frame.specs.Frame.{FitsConfig, FrameFaults}
-use Rattle.usac_frame.specs.FrameExact.{frame_of_is}
+use Rattle.usac_frame.specs.FrameFound.{frame_of_is}
 use Rattle.usac_frame.specs.Units.{unit_of, payload_length}
 use Rattle.preroll.specs.declared.fault.CarryFault.{CarryFault}
 use Rattle.preroll.specs.Faults.{of_unit, is_want}

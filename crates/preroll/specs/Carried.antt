@@ -16,7 +16,8 @@ use Rattle.preroll.specs.declared.fault.PreFault.TheVariants as faults
 use Rattle.preroll.specs.declared.fault.CarryFault.{CarryFault}
 use Rattle.preroll.specs.declared.fault.CarryFault.TheVariants.{NotImmediate, Split, BadPreroll, BadConfig, ConfigDiffers, BadUnit, Nested, FirstDependent, Memory}
 use Rattle.preroll.specs.declared.preroll.PreRoll.{PreRoll}
-use Rattle.preroll.specs.PreRoll.{preroll_of, PreRollFaults}
+use Rattle.preroll.specs.PreRoll.{PreRollFaults}
+use Rattle.preroll.specs.Payload.{preroll_of}
 
 -- The payload of part 0 is a preroll, of which this holds.
 abbrev pub HasPreRoll : Frame → (PreRoll → Type 0) → Type 0

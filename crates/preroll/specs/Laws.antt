@@ -1,6 +1,6 @@
 -- What is true of every preroll, and of the rules.
-use Rattle.std.specs.Prelude.{◌≡◌, ℕ, ◌<◌, Bool, true, false, List, ◌++◌, replicate, Some, Result, IfOk, IfErr}
-use Rattle.layout.specs.Laws.{SpellsOnce, IsDecidedWhole, IsValueOf}
+use Rattle.std.specs.Prelude.{◌≡◌, ℕ, ◌<◌, Bool, true, false, List, ◌++◌, replicate, Some, None, Result, IfOk, IfErr}
+use Rattle.layout.specs.Laws.{SpellsOnce, IsDecidedWhole}
 use Rattle.layout.specs.Reading.{ReadsText}
 use Rattle.layout.specs.Text.{bits_of, pad}
 use Rattle.usac_cfg.specs.declared.usac_config.UsacConfig.{UsacConfig}
@@ -10,7 +10,8 @@ use Rattle.preroll.specs.declared.fault.PreFault.{PreFault}
 use Rattle.preroll.specs.declared.fault.CarryFault.{CarryFault}
 use Rattle.preroll.specs.declared.preroll.PreRoll.{PreRoll}
 use Rattle.preroll.specs.Faults.{is_memory}
-use Rattle.preroll.specs.PreRoll.{preroll, preroll_text, fault_of, PreRollFaults, IsWellFormed}
+use Rattle.preroll.specs.PreRoll.{preroll, preroll_text, PreRollFaults, IsWellFormed}
+use Rattle.preroll.specs.Payload.{preroll_of, fault_of}
 use Rattle.preroll.specs.Carried.{IsFirst, Carries}
 
 -- A payload is at most one preroll.
@@ -21,11 +22,13 @@ IsSpelledOnce = SpellsOnce preroll
 abbrev pub IsDecided : Type 0
 IsDecided = IsDecidedWhole preroll
 
--- The preroll that is read off a payload is the preroll that it is.
-abbrev pub IsPreRollOf : Type 0
-IsPreRollOf = IsValueOf preroll
+-- The preroll of a payload is the one whose spelling it is; a payload with a fault is none.
+pub record IsPreRollOf : Type 0 where
+  pub is : (payload : List ℕ) (p : PreRoll) → preroll_of payload ≡ Some p → IsWellFormed p × (bits_of payload ≡ preroll_text p)
+  pub found : (payload : List ℕ) (p : PreRoll) → IsWellFormed p → bits_of payload ≡ preroll_text p → preroll_of payload ≡ Some p
+  pub none : (payload : List ℕ) (e : PreFault) → PreRollFaults e payload → preroll_of payload ≡ None
 
--- The fault that a reader finds in a payload is its first one.
+-- The fault of a payload is its first one.
 pub record IsFaultOf : Type 0 where
   pub is : (payload : List ℕ) (e : PreFault) → fault_of payload ≡ Some e → PreRollFaults e payload
   pub found : (payload : List ℕ) (e : PreFault) → PreRollFaults e payload → fault_of payload ≡ Some e

@@ -1,10 +1,8 @@
 -- A preroll, field by field (ISO/IEC 23003-3, AudioPreRoll).
-use Rattle.std.specs.Prelude.{ℕ, ◌≤◌, ◌<◌, Bool, List, length, Option, Some, None, Result, Ok, Err}
+use Rattle.std.specs.Prelude.{ℕ, ◌≤◌, ◌<◌, Bool, List, length}
 use Rattle.std.specs.List.{AllByRecursion}
 use Rattle.layout.specs.Text.{bits_of}
 use Rattle.layout.specs.Layout.{Layout, both, shaped, fitted, wrapped}
-use Rattle.layout.specs.Laws.{value_of}
-use Rattle.layout.specs.Reader.{Reader}
 use Rattle.layout.specs.Times.{times}
 use Rattle.layout.specs.ToEnd.{rest}
 use Rattle.bit_core.specs.declared.faults.ReadFault.TheVariants as reads
@@ -52,18 +50,6 @@ preroll = fitted IsWellFormed
 -- the spelling of a preroll
 abbrev pub preroll_text : PreRoll → List Bool
 preroll_text p = preroll.spelling p
-
--- The preroll that a payload is, if it is one. `IsPreRollOf` says that this is so.
-abbrev pub preroll_of : List ℕ → Option PreRoll
-preroll_of payload = value_of preroll (bits_of payload)
-
-abbrev pub fault_read : Result (PreRoll × Reader) PreFault → Option PreFault
-fault_read (Ok x) = None
-fault_read (Err e) = Some e
-
--- Its first fault, if it is none. `IsFaultOf` says that this is so.
-abbrev pub fault_of : List ℕ → Option PreFault
-fault_of payload = fault_read (preroll.read (record { text = bits_of payload; at = 0 }))
 
 -- the first fault of a payload, of which all bits are to be a preroll
 abbrev pub PreRollFaults : PreFault → List ℕ → Type 0

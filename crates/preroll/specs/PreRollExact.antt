@@ -1,20 +1,18 @@
 -- A preroll is read exactly, and what follows from it.
 use Rattle.std.proofs.Common.{◌≡◌, ℕ, ◌-◌, ◌%◌, false, List, ◌++◌, length, replicate, Some, Result, Ok, Err, refl, ap, subst, ◌∙◌, append_assoc, arith}
 use Rattle.layout.specs.Exact.{IsExact, IsExactToEnd}
-use Rattle.layout.specs.Reader.{Reader}
-use Rattle.layout.specs.Text.{bits_of}
+use Rattle.layout.specs.Laws.{SpellsOnce, IsDecidedWhole}
 use Rattle.layout.proofs.Every.{all_so}
 use Rattle.layout.proofs.Layouts.{both-exact, shaped-exact, wrapped-exact, times-exact, some_is}
 use Rattle.layout.proofs.ToEnd.{both-to_end, fitted-to_end, rest-to_end}
-use Rattle.layout.proofs.Whole.{spells_once, decided_whole, value_of_is}
+use Rattle.layout.proofs.Whole.{spells_once, decided_whole}
 use Rattle.bit_core.specs.declared.faults.ReadFault.TheVariants as reads
 use Rattle.bit_core.proofs.PlainFacts.{bit-exact, octets-exact}
 use Rattle.esc_value.specs.EscapedExact.{escaped_exact}
 use Rattle.preroll.specs.declared.fault.PreFault.{PreFault}
 use Rattle.preroll.specs.declared.preroll.PreRoll.{PreRoll}
 use Rattle.preroll.specs.Faults.{from_short, from_read}
-use Rattle.preroll.specs.PreRoll.{flag, counted_bytes, units, HasBytes, IsWellFormed, preroll, preroll_text, fault_read, PreRollFaults}
-use Rattle.preroll.specs.Laws.{IsSpelledOnce, IsDecided, IsPreRollOf, IsFaultOf, with_zeros, IsReadBack}
+use Rattle.preroll.specs.PreRoll.{flag, counted_bytes, units, HasBytes, IsWellFormed, preroll}
 
 flag-exact : IsExact flag
 flag-exact = wrapped-exact from_short _ bit-exact
@@ -50,33 +48,8 @@ preroll_exact = fitted-to_end IsWellFormed _ _ _ (both-to_end _ _ (counted-exact
 
 -- ---- laws
 
-pub spelled_once : IsSpelledOnce
+pub spelled_once : SpellsOnce preroll
 spelled_once = spells_once preroll preroll_exact
 
-pub decided : IsDecided
+pub decided : IsDecidedWhole preroll
 decided = decided_whole preroll preroll_exact
-
-pub preroll_of_is : IsPreRollOf
-preroll_of_is = value_of_is preroll preroll_exact
-
-zeros_behind : (p : PreRoll) (n : ℕ) → preroll_text p ++ replicate n false ≡ preroll_text (with_zeros p n)
-zeros_behind p n = simp append_assoc
-
-pub read_back : IsReadBack
-read_back p bytes result fits written reads =
-    let n = (8 - length (preroll_text p) % 8) % 8 in
-    let fit : IsWellFormed (with_zeros p n) = record { config = fits.config; few = fits.few; units = fits.units } in
-    let both = reads.only (with_zeros p n) fit (written ∙ zeros_behind p n) in
-    (n, omega arith, both.0, both.1)
-
--- ---- the fault of a payload
-
-fault_is : (payload : List ℕ) (e : PreFault) (q : Result (PreRoll × Reader) PreFault) → preroll.read (record { text = bits_of payload; at = 0 }) ≡ q → fault_read q ≡ Some e → PreRollFaults e payload
-fault_is payload e (Ok x) is never = absurd cc
-fault_is payload e (Err f) is same = subst (λ (g : PreFault). PreRollFaults g payload) (some_is f e same) (preroll_exact.blames (record { text = bits_of payload; at = 0 }) f is)
-
-pub fault_of_is : IsFaultOf
-fault_of_is = record {
-  is = λ payload e same. fault_is payload e (preroll.read (record { text = bits_of payload; at = 0 })) refl same;
-  found = λ payload e bad. ap fault_read (preroll_exact.only (record { text = bits_of payload; at = 0 }) e bad);
-}

@@ -9,7 +9,7 @@ use Rattle.usac_frame.specs.Units.{payload_length, first_payload, is_whole}
 use Rattle.preroll.specs.declared.fault.CarryFault.{CarryFault}
 use Rattle.preroll.specs.declared.fault.CarryFault.TheVariants.{NotImmediate, Split, BadPreroll, BadConfig, ConfigDiffers, BadUnit, Nested, FirstDependent, Memory}
 use Rattle.preroll.specs.declared.preroll.PreRoll.{PreRoll}
-use Rattle.preroll.specs.PreRoll.{preroll_of}
+use Rattle.preroll.specs.Payload.{preroll_of}
 use Rattle.preroll.specs.Carried.{IsNoConfig, IsOtherConfig, IsShortUnit, Breaks}
 
 -- the fault is one of the configuration's, and it is there

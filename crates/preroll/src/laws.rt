@@ -13,12 +13,12 @@ pub fn payloads_are_decided()
     ensures { IsDecided }
 {}
 
-/// The preroll that is read off a payload is the preroll that it is.
+/// The preroll of a payload is the one whose spelling it is; a payload with a fault is none.
 pub fn payloads_are_their_prerolls()
     ensures { IsPreRollOf }
 {}
 
-/// The fault that a reader finds in a payload is its first one.
+/// The fault of a payload is its first one.
 pub fn payloads_have_their_faults()
     ensures { IsFaultOf }
 {}

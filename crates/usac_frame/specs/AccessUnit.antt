@@ -5,6 +5,7 @@ use Rattle.layout.specs.Laws.{value_of}
 use Rattle.usac_cfg.specs.declared.usac_config.UsacConfig.{UsacConfig}
 use Rattle.usac_frame.specs.declared.frame.Frame.{Frame}
 use Rattle.usac_frame.specs.Frame.{FitsConfig, frame, frame_text}
+use Rattle.usac_frame.specs.FrameExact.{decided}
 use Rattle.usac_frame.specs.Units.{UnitValue, unit_of}
 
 -- These bytes are the frame: it fits the configuration, and they are its spelling.
@@ -12,9 +13,9 @@ pub record IsFrame (c : UsacConfig) (au : List ℕ) (f : Frame) : Type 0 where
   pub fits : FitsConfig c f
   pub spelled : bits_of au ≡ frame_text c f
 
--- The frame that an access unit is, if it is one: what the layout reads of all its bits. `IsFrameOf` says that this is so.
-abbrev pub frame_of : UsacConfig → List ℕ → Option Frame
-frame_of c au = value_of (frame c) (bits_of au)
+-- The frame whose spelling an access unit is, if it is one.
+unfoldable pub frame_of : UsacConfig → List ℕ → Option Frame
+frame_of c au = value_of (frame c) (decided c) (bits_of au)
 
 -- It is that frame exactly where the access unit is it.
 pub record IsFrameOf : Type 0 where

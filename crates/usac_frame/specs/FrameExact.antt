@@ -7,7 +7,7 @@ use Rattle.layout.specs.Each.{FitEach}
 use Rattle.layout.specs.Exact.{IsExact, IsExactToEnd}
 use Rattle.layout.proofs.EachExact.{each-exact}
 use Rattle.layout.proofs.ToEnd.{both-to_end, fitted-to_end, rest-to_end}
-use Rattle.layout.proofs.Whole.{spells_once, decided_whole, value_of_is}
+use Rattle.layout.proofs.Whole.{spells_once, decided_whole}
 use Rattle.usac_cfg.specs.declared.element_config.ElementConfig.{ElementConfig}
 use Rattle.usac_cfg.specs.declared.element_config.ElementConfig.TheVariants.{Single, Pair, Lfe, Ext}
 use Rattle.usac_cfg.specs.declared.ext_config.ExtConfig.{ExtConfig}
@@ -23,8 +23,6 @@ use Rattle.usac_frame.specs.Part.{HasLength, IsPart, part, part_text}
 use Rattle.usac_frame.specs.Frame.{FitsConfig, leading, leading_exts, parts_text, parts, frame, frame_text}
 use Rattle.usac_frame.specs.Units.{preroll_parts, payload_of}
 use Rattle.usac_frame.specs.Laws.{IsSpelledOnce, IsDecided, with_zeros, IsReadBack, HasPartOfEach, IsSplitAtPreroll, HasSmallPayload}
-use Rattle.usac_frame.specs.AccessUnit.{IsFrameOf}
-use Rattle.layout.specs.Text.{bits_of}
 use Rattle.std.specs.Prelude.{ℕ}
 use Rattle.usac_frame.specs.PartExact.{flag-exact, part_exact}
 
@@ -82,14 +80,6 @@ split_at_preroll c f fits =
     let k = preroll_parts c in
     let exts = leading_exts c in
     ap (λ (t : List Bool). f.independent ∷ (t ++ f.rest)) (text_split k exts f.leading) ∙ ap (λ (t : List Bool). f.independent ∷ t) (append_assoc (parts_text (take k exts) (take k f.leading)) (parts_text (drop k exts) (drop k f.leading)) f.rest)
-
--- ---- the frame of an access unit
-
-pub frame_of_is : IsFrameOf
-frame_of_is = record {
-  is = λ c au f e. let v = (value_of_is (frame c) (frame_exact c)).is (bits_of au) f e in record { fits = v.0; spelled = v.1 };
-  found = λ c au f is. (value_of_is (frame c) (frame_exact c)).found (bits_of au) f is.fits is.spelled;
-}
 
 -- ---- the length of a payload
 

@@ -2,7 +2,8 @@ pub mod Faults
 pub mod Part
 pub mod Frame
 pub mod Units
-pub mod AccessUnit
 pub mod Laws
 pub mod PartExact
 pub mod FrameExact
+pub mod AccessUnit
+pub mod FrameFound

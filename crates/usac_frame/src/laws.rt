@@ -30,7 +30,7 @@ pub fn frames_are_split_at_the_preroll()
     ensures { IsSplitAtPreroll }
 {}
 
-/// The frame that is read off an access unit is the frame that it is.
+/// The frame of an access unit is the one whose spelling it is.
 pub fn access_units_are_their_frames()
     ensures { IsFrameOf }
 {}

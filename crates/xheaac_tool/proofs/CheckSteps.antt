@@ -8,7 +8,8 @@ use Rattle.latm.specs.declared.mux_config.MuxConfig.{MuxConfig}
 use Rattle.usac_cfg.specs.declared.usac_config.UsacConfig.{UsacConfig}
 use Rattle.usac_frame.specs.declared.frame.Frame.{Frame as UsacFrame}
 use Rattle.usac_frame.specs.AccessUnit.{IsFrame}
-use Rattle.usac_frame.specs.FrameExact.{spelled_once, frame_of_is}
+use Rattle.usac_frame.specs.FrameExact.{spelled_once}
+use Rattle.usac_frame.specs.FrameFound.{frame_of_is}
 use Rattle.usac_frame.specs.Units.{is_immediate}
 use Rattle.preroll.specs.declared.fault.CarryFault.{CarryFault}
 use Rattle.preroll.specs.declared.fault.CarryFault.TheVariants as carries

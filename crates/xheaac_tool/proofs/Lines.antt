@@ -1,5 +1,5 @@
 -- Lemmas on lines that are written one after another.
-use Rattle.std.proofs.Common.{◌≡◌, ℕ, zero, suc, ◌+◌, ◌<◌, List, [], ◌∷◌, ◌++◌, length, take, drop, get_or, Bool, true, Option, Result, Err, inl, inr, refl, sym, ap, subst, ◌∙◌, append_assoc, arith, Some}
+use Rattle.std.proofs.Common.{◌≡◌, ℕ, zero, suc, ◌+◌, ◌<◌, List, [], ◌∷◌, ◌++◌, length, take, drop, get_or, Bool, true, Option, None, Result, Err, inl, inr, refl, sym, ap, subst, ◌∙◌, append_assoc, arith, Some}
 use Rattle.std.specs.Prelude.{if◌then◌else◌}
 use Rattle.std.specs.Io.KnownBytes.{append_known}
 use Rattle.std.proofs.lemmas.Bool.{cases_lt}
@@ -11,21 +11,21 @@ use Rattle.core_iface.specs.Answering.{Meaning}
 use Rattle.outside.specs.declared.fault.DeviceFault.{DeviceFault}
 use Rattle.outside.specs.declared.fault.DeviceFault.TheVariants as devices
 use Rattle.tool_text.specs.MuxLine.{lines_of_mux}
-use Rattle.layout.specs.Laws.{value_read}
-use Rattle.layout.specs.Reader.{Reader}
 use Rattle.layout.specs.Text.{bits_of}
 use Rattle.usac_cfg.specs.declared.usac_config.UsacConfig.{UsacConfig}
 use Rattle.usac_frame.specs.declared.frame.Frame.{Frame as UsacFrame}
 use Rattle.usac_frame.specs.declared.fault.FrameFault.TheVariants as faults
 use Rattle.usac_frame.specs.Frame.{FrameFaults}
 use Rattle.usac_frame.specs.AccessUnit.{IsFrame, frame_of}
-use Rattle.usac_frame.specs.FrameExact.{decided, frame_of_is}
+use Rattle.usac_frame.specs.FrameExact.{decided}
+use Rattle.usac_frame.specs.FrameFound.{frame_of_is}
 use Rattle.usac_frame.specs.Units.{first_payload, is_immediate}
 use Rattle.preroll.specs.declared.fault.PreFault.{PreFault}
 use Rattle.preroll.specs.declared.fault.PreFault.TheVariants as prerolls
 use Rattle.preroll.specs.declared.preroll.PreRoll.{PreRoll}
-use Rattle.preroll.specs.PreRoll.{IsWellFormed, preroll_text, fault_read, fault_of, PreRollFaults}
-use Rattle.preroll.specs.PreRollExact.{preroll_exact, preroll_of_is}
+use Rattle.preroll.specs.PreRoll.{IsWellFormed, preroll_text, PreRollFaults}
+use Rattle.preroll.specs.Payload.{fault_of}
+use Rattle.preroll.specs.PayloadFound.{preroll_of_is, fault_of_is}
 use Rattle.tool_text.specs.PreRollLines.{bad_line, lines_of_preroll}
 use Rattle.tool_text.specs.declared.refusal.Refusal.{Refusal}
 use Rattle.tool_text.specs.declared.refusal.Place.TheVariants as places
@@ -91,11 +91,12 @@ lines_part before after mux lines is part = subst (λ (x : List (List ℕ)). Wro
 
 -- the lines of a payload that is a preroll, and of one that is none
 pub payload_good : (payload : List ℕ) (p : PreRoll) → IsWellFormed p → bits_of payload ≡ preroll_text p → payload_lines payload ≡ lines_of_preroll p
-payload_good payload p fits spelled = ap (λ (o : Option PreRoll). lines_where o (fault_of payload)) (preroll_of_is.found (bits_of payload) p fits spelled)
+payload_good payload p fits spelled = ap (λ (o : Option PreRoll). lines_where o (fault_of payload)) (preroll_of_is.found payload p fits spelled)
 
 pub payload_bad : (payload : List ℕ) (at : ℕ) → PreRollFaults (prerolls.Short at) payload → payload_lines payload ≡ bad_line at ∷ []
 payload_bad payload at bad =
-    ap (λ (q : Result (PreRoll × Reader) PreFault). lines_where (value_read q) (fault_read q)) (preroll_exact.only (record { text = bits_of payload; at = 0 }) (prerolls.Short at) bad)
+    ap (λ (o : Option PreRoll). lines_where o (fault_of payload)) (preroll_of_is.none payload (prerolls.Short at) bad)
+    ∙ ap (λ (o : Option PreFault). lines_where None o) (fault_of_is.found payload (prerolls.Short at) bad)
 
 pub preroll_all : (c : UsacConfig) (g : UsacFrame) (lines : List (List ℕ)) → is_immediate c g ≡ true → lines ≡ payload_lines (first_payload g) → joined lines ≡ preroll_where c g
 preroll_all c g lines immediate is = ap joined is ∙ sym (ap (λ (b : Bool). if b then joined (payload_lines (first_payload g)) else []) immediate)

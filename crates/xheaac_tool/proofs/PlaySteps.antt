@@ -7,7 +7,8 @@ use Rattle.usac_cfg.specs.UsacConfig.{IsWellFormed}
 use Rattle.usac_frame.specs.declared.frame.Frame.{Frame as UsacFrame}
 use Rattle.usac_frame.specs.Units.{UnitValue, unit_of}
 use Rattle.usac_frame.specs.AccessUnit.{IsFrame, unit_where, unit_in}
-use Rattle.usac_frame.specs.FrameExact.{spelled_once, frame_of_is}
+use Rattle.usac_frame.specs.FrameExact.{spelled_once}
+use Rattle.usac_frame.specs.FrameFound.{frame_of_is}
 use Rattle.tool_text.specs.declared.refusal.Refusal.{Refusal}
 use Rattle.au_stream.specs.declared.event.Event.{Event}
 use Rattle.au_stream.specs.Events.{IsEvent}

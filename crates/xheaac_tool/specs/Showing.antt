@@ -9,7 +9,7 @@ use Rattle.usac_frame.specs.Units.{first_payload, is_immediate}
 use Rattle.preroll.specs.declared.fault.PreFault.{PreFault}
 use Rattle.preroll.specs.declared.fault.PreFault.TheVariants as faults
 use Rattle.preroll.specs.declared.preroll.PreRoll.{PreRoll}
-use Rattle.preroll.specs.PreRoll.{preroll_of, fault_of}
+use Rattle.preroll.specs.Payload.{preroll_of, fault_of}
 use Rattle.tool_text.specs.MuxLine.{lines_of_mux}
 use Rattle.tool_text.specs.FrameLine.{frame_line}
 use Rattle.tool_text.specs.PreRollLines.{bad_line, lines_of_preroll}

@@ -1,4 +1,4 @@
-use Rattle.preroll.specs.PreRollExact.{preroll_of_is}
+use Rattle.preroll.specs.PayloadFound.{preroll_of_is}
 use Rattle.preroll.proofs.laws.payloads_are_their_prerolls.Goals as goal
 
 pub returns : goal.returns

@@ -1,4 +1,4 @@
-use Rattle.preroll.specs.PreRollExact.{fault_of_is}
+use Rattle.preroll.specs.PayloadFound.{fault_of_is}
 use Rattle.preroll.proofs.laws.payloads_have_their_faults.Goals as goal
 
 pub returns : goal.returns

@@ -1,4 +1,4 @@
-use Rattle.preroll.specs.PreRollExact.{read_back}
+use Rattle.preroll.specs.PayloadFound.{read_back}
 use Rattle.preroll.proofs.laws.prerolls_are_read_back.Goals as goal
 
 pub returns : goal.returns

@@ -1,4 +1,4 @@
-use Rattle.usac_frame.specs.FrameExact.{frame_of_is}
+use Rattle.usac_frame.specs.FrameFound.{frame_of_is}
 use Rattle.preroll.proofs.units.read_unit.Goals as goal
 
 pub returns-in-Ok-clause-found : goal.returns-in-Ok-clause-found
