@@ -3,23 +3,28 @@
 
 use core_iface::FoldCore;
 use outside::{FileShelf, StdSink};
-use std::alloc::Global;
-use std::env;
+use std::alloc::{AllocError, Global};
 use std::process::ExitCode;
 use std::rt::Env;
-use xheaac_tool::run;
+use std::{env, io};
+use xheaac_tool::{WordsFault, run_line};
 
-// The words of the command line without the program's name; none where they are no text.
-fn words_of<R: Env + AllocGlobal>(rt: &R) -> Vec<String> {
+// The words of the command line without the program's name.
+fn words_of<R: Env + AllocGlobal>(rt: &R) -> Result<Vec<String>, WordsFault> {
+    let args = match env::args(rt) {
+        Ok(args) => args,
+        Err(error) if error.kind() == io::ErrorKind::OutOfMemory => {
+            return Err(WordsFault::Memory(AllocError));
+        }
+        Err(_) => return Err(WordsFault::NotText),
+    };
     let mut words = Vec::new(rt.alloc());
-    if let Ok(args) = env::args(rt) {
-        for word in args.skip(1) {
-            if words.push(word).is_err() {
-                return Vec::new(rt.alloc());
-            }
+    for word in args.skip(1) {
+        if words.push(word).is_err() {
+            return Err(WordsFault::Memory(AllocError));
         }
     }
-    words
+    Ok(words)
 }
 
 fn main(rt: HostRuntime) -> ExitCode {
@@ -29,5 +34,6 @@ fn main(rt: HostRuntime) -> ExitCode {
     let mut note = StdSink::new(rt.stderr());
     let mut shelf = FileShelf::new(rt, alloc);
     let mut core = FoldCore::new();
-    ExitCode::from(run(alloc, &words, &mut shelf, &mut out, &mut note, &mut core))
+    let status = run_line(alloc, words, &mut shelf, &mut out, &mut note, &mut core);
+    ExitCode::from(status)
 }
