@@ -134,7 +134,11 @@ class Fold:
 
 
 class Command:
-    """What is written for each frame, and behind the last one of a stream that was read to its end."""
+    """What is written where a frame opens with a mux, before that frame is judged; for each frame; and behind the last one of a
+    stream that was read to its end."""
+
+    def open(self, mux):
+        return b""
 
     def handle(self, frame):
         raise NotImplementedError
@@ -161,18 +165,25 @@ class Play(Command):
         return self.core.block(unit.bits)
 
 
+def text_of(lines):
+    """The bytes of lines, each with its line feed."""
+    return b"".join(line.encode() + b"\n" for line in lines)
+
+
 class Show(Command):
-    """The lines of each mux, at the first frame of its element, and of each frame with its preroll, if it is immediate. It
-    writes nothing of a frame that is refused."""
+    """The lines of each mux, at the first frame of its element, whether that frame is refused or not; and of each frame with its
+    preroll, if it is immediate. A frame that is refused has no line."""
+
+    def open(self, mux):
+        return text_of(mux.shown())
 
     def handle(self, frame):
         unit = read_unit(frame)
-        lines = list(frame.opening.shown()) if frame.opening else []
         leading = ",".join(part.shown() for part in unit.parts) or "none"
-        lines.append(f"frame {frame.number} independent={unit.flag} bytes={len(frame.unit) // 8} leading={leading}")
+        lines = [f"frame {frame.number} independent={unit.flag} bytes={len(frame.unit) // 8} leading={leading}"]
         if unit.is_immediate:
             lines += preroll_lines(unit.preroll)
-        return b"".join(line.encode() + b"\n" for line in lines)
+        return text_of(lines)
 
 
 class Check(Command):
@@ -204,6 +215,8 @@ def run(command, octets):
     written = []
     try:
         for frame in frames_of(octets):
+            if frame.opening:
+                written.append(command.open(frame.opening))
             written.append(command.handle(frame))
         written.append(command.end())
     except Stop as stop:
