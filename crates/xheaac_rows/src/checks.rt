@@ -1,12 +1,13 @@
 // Worked rows of `check`.
 use crate::cases::{CHANGED, Case, EMPTIED, IMMEDIATE, PLAIN, TWO_SLOTS_LOST, check_output};
+use commands::Outcome;
 use core_iface::{Core, FoldCore};
 use outside::{MemShelf, MemSink};
 use std::alloc::Global;
 use std::process::Abort;
 use std::test::Fail;
 use vectors::{EIGHT_FRAMES, bytes_of};
-use xheaac_tool::{Outcome, do_check};
+use xheaac_tool::do_check;
 
 // The first four frames of `EIGHT_FRAMES`, and the last four of `IMMEDIATE`, of which the first opens with its configuration.
 const JOINED: &str =

@@ -11,7 +11,11 @@ mod cases;
 #[cfg(test)]
 mod checks;
 #[cfg(test)]
+mod command_line;
+#[cfg(test)]
 mod leading;
+#[cfg(test)]
+mod opened;
 #[cfg(test)]
 mod refusals;
 #[cfg(test)]

@@ -6,11 +6,12 @@ use crate::cases::{
     CHANGED, Case, EMPTIED, PLAIN, REOPENED, TWO_SLOTS, TWO_SLOTS_LOST, TWO_SLOTS_REFUSED,
     TWO_SLOTS_SHORT, USAGE, VERSION_1, WHOLE, check, ended, samples,
 };
+use commands::Outcome;
 use core_iface::{Core, FoldCore};
 use outside::{MemShelf, MemSink};
 use std::process::Abort;
 use std::test::Fail;
-use xheaac_tool::{Outcome, do_play};
+use xheaac_tool::do_play;
 
 #[test]
 fn plays_streams(rt: HostRuntime) -> Result<(), Fail> {

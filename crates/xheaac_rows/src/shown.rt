@@ -3,27 +3,28 @@ use crate::cases::{
     CHANGED, Case, DECLARED, EMPTIED, IMMEDIATE, PLAIN, REOPENED, TWO_SLOTS, TWO_SLOTS_REFUSED,
     VERSION_1, check_output, ended,
 };
+use commands::Outcome;
 use core_iface::{Core, FoldCore};
 use outside::{MemShelf, MemSink};
 use std::test::Fail;
-use xheaac_tool::{Outcome, do_show};
+use xheaac_tool::do_show;
 
-const MUX_LINE: &str = "mux version=0 subframes=1 fullness=255 other=- crc=-\n";
+pub const MUX_LINE: &str = "mux version=0 subframes=1 fullness=255 other=- crc=-\n";
 
-const TWO_SLOTS_LINE: &str = "mux version=0 subframes=2 fullness=255 other=- crc=-\n";
+pub const TWO_SLOTS_LINE: &str = "mux version=0 subframes=2 fullness=255 other=- crc=-\n";
 
-const VERSION_1_LINES: &str =
+pub const VERSION_1_LINES: &str =
     "mux version=1 subframes=1 fullness=192 other=5 crc=c3\nasc index=3 rate=- channels=1 tail=3\nusac rate=48000 frame=1024 channels=1 elements=1 extensions=0 id=-\nelement 0 single tw=0 nf=1\n";
 
-const DECLARED_LINES: &str =
+pub const DECLARED_LINES: &str =
     "asc index=3 rate=- channels=1 tail=0\nusac rate=48000 frame=1024 channels=1 elements=2 extensions=1 id=1\nelement 0 ext type=3 default=- frag=0 config=-\nelement 1 single tw=0 nf=1\nextension 0 type=7 bytes=0001\n";
 
-const PLAIN_LINES: &str =
+pub const PLAIN_LINES: &str =
     "asc index=3 rate=- channels=1 tail=0\nusac rate=48000 frame=1024 channels=1 elements=1 extensions=0 id=-\nelement 0 single tw=0 nf=1\n";
 
-const FIRST_LINE: &str = "frame 0 independent=1 bytes=1 leading=none\n";
+pub const FIRST_LINE: &str = "frame 0 independent=1 bytes=1 leading=none\n";
 
-const FIRST_LINES: &str =
+pub const FIRST_LINES: &str =
     "frame 0 independent=1 bytes=1 leading=none\nframe 1 independent=0 bytes=1 leading=none\n";
 
 const IMMEDIATE_LINES: &str =
