@@ -4,7 +4,7 @@ use crate::{DeviceFault, Shelf};
 use causes::raised;
 use std::alloc::{AllocError, Global};
 use std::fs;
-use std::io::Read;
+use std::io::{self, Read};
 use std::marker::Model;
 use std::rt::Files;
 
@@ -57,9 +57,15 @@ impl<R: Files + Drop> Shelf for FileShelf<R> {
     }
 
     fn begin(&mut self, _alloc: Global, name: &str) -> Result<u32, DeviceFault> {
-        let Ok(file) = fs::open(&self.rt, name) else {
-            self.faults = raised(self.faults);
-            return Err(DeviceFault::Failed);
+        let file = match fs::open(&self.rt, name) {
+            Ok(file) => file,
+            Err(error) if error.kind() == io::ErrorKind::OutOfMemory => {
+                return Err(DeviceFault::Memory(AllocError));
+            }
+            Err(_) => {
+                self.faults = raised(self.faults);
+                return Err(DeviceFault::Failed);
+            }
         };
         let id = self.files.len() as u32;
         if self.files.push(file).is_err() {

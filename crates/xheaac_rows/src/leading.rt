@@ -42,19 +42,23 @@ fn plays_leading_elements(rt: HostRuntime) -> Result<(), Fail> {
     assert_eq!(rt; whole.len(), 61);
     let mut cut = Vec::from_slice(alloc, &whole)?;
     cut.truncate(60);
+    // the first byte of the second header is 57
+    let mut lost = Vec::from_slice(alloc, &whole)?;
+    lost[19] = 0x57;
     // the second access unit is 40: its part 0 is present, and no bit of its length is there
     let mut short = Vec::from_slice(alloc, &whole)?;
     short[23] = 0xA0;
     // the first access unit is 20
     let mut dependent = Vec::from_slice(alloc, &whole)?;
     dependent[17] = 0x12;
-    let rows: [Row<'_>; 7] = [
+    let rows: [Row<'_>; 8] = [
         (&whole, &[1, 7, 28, 40, 13, 31, 108, 335], ""),
         (
             &cut,
             &[1, 7, 28, 40, 13, 31, 108],
             "refused: byte 55: truncated\n",
         ),
+        (&lost, &[1], "refused: byte 19: sync lost\n"),
         // two slots in one element
         (
             b"\x56\xE0\x12\x20\x80\xF9\x46\x23\x21\x1C\xC0\x18\xE4\x00\x02\x3F\xC0\x1A\x00\x11\x00",
