@@ -4,6 +4,8 @@ ghost use Rattle.std.specs.Option.{option_copied, option_map};
 ghost use Rattle.layout.specs.Layout.{FitsOption};
 ghost use Rattle.loas.specs.Framing.{BeginsWithFrame};
 ghost use Rattle.latm.specs.MuxConfig.{IsWellFormed};
+ghost use Rattle.asc.specs.Asc.{IsWellFormed as IsAscWellFormed};
+ghost use Rattle.usac_cfg.specs.UsacConfig.{IsWellFormed as IsUsacWellFormed};
 ghost use Rattle.au_stream.specs.Frames.{Frame, last_of};
 ghost use Rattle.au_stream.specs.Script.{most_bytes};
 ghost use Rattle.au_stream.specs.Taking.{seen, IsReadFault, Caused};
@@ -142,6 +144,8 @@ impl AuReader {
 
     /// The AudioSpecificConfig in force for the last frame that was given; None exactly before the first one.
     pub fn asc(&self) -> Option<&Asc>
+        ensures in_force { option_copied result ≡ option_map (λ m. m.asc) self.now.in_force }
+        ensures well_formed { FitsOption IsAscWellFormed (option_copied result) }
         ensures last { (got : List ℕ) (given : List Frame) → HasRead got given self.now → option_copied result ≡ option_map (λ f. f.mux.asc) (last_of given) }
     {
         match self.mux() {
@@ -152,6 +156,8 @@ impl AuReader {
 
     /// The UsacConfig in force for the last frame that was given (ISO/IEC 23003-3); None exactly before the first one.
     pub fn config(&self) -> Option<&UsacConfig>
+        ensures in_force { option_copied result ≡ option_map (λ m. m.asc.usac) self.now.in_force }
+        ensures well_formed { FitsOption IsUsacWellFormed (option_copied result) }
         ensures last { (got : List ℕ) (given : List Frame) → HasRead got given self.now → option_copied result ≡ option_map (λ f. f.mux.asc.usac) (last_of given) }
     {
         match self.mux() {
