@@ -35,9 +35,9 @@ impl Model for FrameReader {
 
     ghost Value = { Framer };
 
-    ghost view = { λ r. r.framer };
+    ghost view = { λ r. r.framer.framer };
 
-    ghost invariant = { λ r. pushed r.framer ≤ LIMIT };
+    ghost invariant = { λ r. pushed r.framer.framer ≤ LIMIT };
 }
 
 impl FrameReader {

@@ -165,8 +165,8 @@ ends-truncated framer (Err (Truncated byte)) t = ((λ e. (t.0, t.1)), (λ p. ap 
 ends-truncated framer (Err (Memory error)) t = absurd t
 
 -- less than a frame has at most 8193 bytes
-pub partial-few : (text : List ℕ) → IsPartial text → length text ≤ 8193
-partial-few text p = omega (arith, p.fits, p.proper, ap (λ (t : List ℕ). length t) p.spelled, length-append text p.more)
+pub partial_few : (text : List ℕ) → IsPartial text → length text ≤ 8193
+partial_few text p = omega (arith, p.fits, p.proper, ap (λ (t : List ℕ). length t) p.spelled, length-append text p.more)
 
 pub wrong-more : (text more : List ℕ) → HasWrongSync text → HasWrongSync (text ++ more)
 wrong-more [] more wrong = absurd wrong

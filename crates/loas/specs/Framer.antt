@@ -7,6 +7,12 @@ pub record Framer : Type 0 where
   -- the bytes that were pushed and not yet passed
   pub held : List ℕ
 
+-- a framer and the memory that it takes
+pub record Buffered : Type 0 where
+  pub framer : Framer
+  -- how many bytes its buffer has: those that are held, and those that were passed and are not yet freed
+  pub stored : ℕ
+
 -- how many bytes were pushed in all
 abbrev pub pushed : Framer → ℕ
 pushed framer = framer.passed + length framer.held

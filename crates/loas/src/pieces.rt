@@ -37,7 +37,7 @@ pub fn frames_of(alloc: Global, pieces: &[Octets]) -> Result<StreamFrames, Alloc
 
 // Takes all frames that are held, behind those that were had.
 fn take_all(alloc: Global, framer: &mut Loas, frames: &mut Vec<Framed>) -> Result<(), AllocError>
-    ensures { OnOk result (TakesAll framer.old framer.new frames.old.items frames.new.items) }
+    ensures { OnOk result (TakesAll framer.old.framer framer.new.framer frames.old.items frames.new.items) }
 {
     'frames: loop {
         match framer.next(alloc) {

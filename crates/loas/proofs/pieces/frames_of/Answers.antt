@@ -18,9 +18,9 @@ push-requires c =
 
 pub loop-piece-preserved : goal.loop-piece-preserved
 loop-piece-preserved c =
-    let taken : TakesAll (grown c.loop-piece.framer c.as_slice.result.now) c.take_all.new.framer c.loop-piece.frames.items c.take_all.new.frames.items =
+    let taken : TakesAll (grown c.loop-piece.framer.framer c.as_slice.result.now) c.take_all.new.framer.framer c.loop-piece.frames.items c.take_all.new.frames.items =
     rw c.in_ok-push.ensures.ok at c.in_ok-take_all.ensures in
-    let read = read-more _ c.loop-piece.framer c.take_all.new.framer c.as_slice.result.now c.loop-piece.frames.items c.take_all.new.frames.items c.loop-piece.invariant.read taken in
+    let read = read-more _ c.loop-piece.framer.framer c.take_all.new.framer.framer c.as_slice.result.now c.loop-piece.frames.items c.take_all.new.frames.items c.loop-piece.invariant.read taken in
     let text = joined-more c.args.pieces.now c.loop-piece.piece-index c.as_slice.result.now c.piece-item.result c.loop-piece-test.true (c.as_slice.ensures ∙ c.piece-item.is) in
     record { read = rw text read }
 
@@ -31,4 +31,4 @@ returns c =
       | in-Ok w ↦ rw (w.in-Ok.is, w.fault-is) tt
       | in-Err w ↦ rw (w.in-Err.is, w.fault-is) refl
     ] in
-    is_read _ c.loop-piece.framer (record { frames = c.loop-piece.frames; fault = c.match-end.fault }) c.end.result read c.end.ensures.ends same
+    is_read _ c.loop-piece.framer.framer (record { frames = c.loop-piece.frames; fault = c.match-end.fault }) c.end.result read c.end.ensures.ends same

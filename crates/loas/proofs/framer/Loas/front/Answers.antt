@@ -6,5 +6,5 @@ use Rattle.loas.proofs.framer.Loas.front.Goals as goal
 
 pub returns : goal.returns
 returns c =
-    let shown : Shows c.args.self.now.held c.front_of.result = grind (arith, common_steps) in
+    let shown : Shows c.args.self.now.framer.held c.front_of.result = grind (arith, common_steps) in
     record { stands = stands _ _ shown }

@@ -9,5 +9,5 @@ use Rattle.loas.proofs.framer.Loas.push.Goals as goal
 
 pub returns-clause-given : goal.returns-clause-given
 returns-clause-given c =
-    let ok : OnOk c.extend_from_slice.result (the_view (record { buffer = c.extend_from_slice.new.self; at = c.self.inside.at; passed = c.self.inside.passed }) ≡ grown c.args.self.now c.args.piece.now) = grind (arith, common_steps) in
-    on_ok_weaker c.extend_from_slice.result (λ e text given h. subst (λ (f : Framer). HasGiven (text ++ c.args.piece.now) given f) (sym e) (given-more text given c.args.self.now c.args.piece.now h)) ok
+    let ok : OnOk c.extend_from_slice.result ((the_view (record { buffer = c.extend_from_slice.new.self; at = c.self.inside.at; passed = c.self.inside.passed })).framer ≡ grown c.args.self.now.framer c.args.piece.now) = grind (arith, common_steps) in
+    on_ok_weaker c.extend_from_slice.result (λ e text given h. subst (λ (f : Framer). HasGiven (text ++ c.args.piece.now) given f) (sym e) (given-more text given c.args.self.now.framer c.args.piece.now h)) ok
