@@ -130,6 +130,24 @@ fn writer_puts_words_off_a_byte(rt: HostRuntime) -> Result<(), Fail> {
     Ok(())
 }
 
+// No clause says that memory suffices.
+#[test]
+fn writer_puts_many_bytes(rt: HostRuntime) -> Result<(), Fail> {
+    let alloc = rt.alloc();
+    for (many, len) in [(65_535, 524_280), (65_536, 524_288)] {
+        let mut bytes = vec![in alloc; 0xA5; many]?;
+        let mut writer = BitWriter::new(alloc);
+        writer.put_bytes(&bytes)?;
+        assert_eq!(rt; writer.len(), len, "of {many} bytes");
+        writer.put(0x12, 8)?;
+        writer.put_bytes(&[0x34])?;
+        bytes.extend_from_slice(&[0x12, 0x34])?;
+        let octets = writer.finish()?;
+        assert_eq!(rt; octets.as_slice(), bytes.as_slice(), "of {many} bytes");
+    }
+    Ok(())
+}
+
 #[test]
 fn writer_puts_fields_together(rt: HostRuntime) -> Result<(), Fail> {
     let alloc = rt.alloc();
