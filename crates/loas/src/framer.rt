@@ -18,9 +18,9 @@ use std::marker::Model;
 /// The bytes that are held begin at `at` in the buffer. A frame is passed by moving `at`, and a look at the front reads
 /// three bytes. The passed bytes are freed by moving those that are held to the front of the buffer. A push does so only
 /// where at least as many bytes were passed since they last moved: so each byte that is passed pays for at most one byte
-/// that is moved. [`Loas::next`] does so where it finds no frame: what is held then is part of one frame, so each of these
-/// bytes moves only once before it is passed. In all, the cost is linear in the bytes that are pushed and in the calls,
-/// however much is held and however small the pieces are.
+/// that is moved. [`Loas::next`] does so where it finds no frame: what is held then is part of one, which begins the buffer
+/// from then on, so none of these bytes is moved again. In all, the cost is linear in the bytes that are pushed and in the
+/// calls, however much is held and however small the pieces are.
 #[derive(Drop)]
 pub struct Loas {
     buffer: Vec<u8>,
