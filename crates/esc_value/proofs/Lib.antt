@@ -1,4 +1,5 @@
 pub mod EscapedWrites
+pub mod Refusals
 pub mod SlotExact
 pub mod SlotSteps
 pub mod SlotWrites

@@ -58,12 +58,13 @@ ends old mid new sum b s read other =
       (ap (λ (q : Reader). q.text) (sym at-is), omega (arith, ap (λ (q : Reader). q.at) at-is)),
     )
 
--- too few bits for a byte
-pub stops : (old mid new : Reader) (sum : ℕ) (f : Short) → SoFar old mid sum → Gives (bits 8) mid new (Err f) → Gives slot old new (Err (short_at old.at))
-stops old mid new sum f s read =
+-- too few bits for a byte: the fault stands where the length begins
+pub stops : (old mid new : Reader) (sum : ℕ) (f g : Short) → SoFar old mid sum → Gives (bits 8) mid new (Err f) → g.at ≡ old.at → Gives slot old new (Err g)
+stops old mid new sum f g s read is =
     let w = (field-open short_at (number 8) 0 (omega arith)).stops mid.at f (left mid) ((bits-exact 8).blames mid f read.0) in
     let p = front_of_byte (left mid) w.0 (let lt : w.0 < 256 = w.1.0 in lt) w.2 in
-    let whole : slot_text (sum + p.0) ≡ left old ++ p.1.0 ∷ p.1.1 = s.spelled p.0 ∙ ap (λ (x : List Bool). s.front ++ x) p.1.2 ∙ sym (append_assoc s.front (left mid) (p.1.0 ∷ p.1.1)) ∙ ap (λ (x : List Bool). x ++ p.1.0 ∷ p.1.1) (sym s.text) in (
-      slot_exact.only old (short_at old.at) (refl, (sum + p.0, (p.1.0, p.1.1, whole))),
+    let whole : slot_text (sum + p.0) ≡ left old ++ p.1.0 ∷ p.1.1 = s.spelled p.0 ∙ ap (λ (x : List Bool). s.front ++ x) p.1.2 ∙ sym (append_assoc s.front (left mid) (p.1.0 ∷ p.1.1)) ∙ ap (λ (x : List Bool). x ++ p.1.0 ∷ p.1.1) (sym s.text) in
+    let there : g ≡ short_at old.at = ap short_at is in (
+      slot_exact.only old g (there, (sum + p.0, (p.1.0, p.1.1, whole))),
       (read.1.0 ∙ ap (λ (q : Reader). q.text) s.at, omega (arith, read.1.1, ap (λ (q : Reader). q.at) s.at)),
     )

@@ -1,3 +1,4 @@
+use Rattle.std.proofs.Common.{arith}
 use Rattle.esc_value.proofs.SlotSteps.{goes_on, ends, stops}
 use Rattle.esc_value.proofs.slot_length.added_up.Goals as goal
 
@@ -14,5 +15,5 @@ returns-then-byte c = record {
 
 pub returns-in-Err : goal.returns-in-Err
 returns-in-Err c = record {
-  exact = rw c.bytes.invariant.start (stops c.args.reader.now c.bytes.reader c.small.new.reader c.bytes.length c.in-Err.field-0 c.bytes.invariant.so_far c.in-Err.ensures.exact);
+  exact = stops c.args.reader.now c.bytes.reader c.small.new.reader c.bytes.length _ _ c.bytes.invariant.so_far c.in-Err.ensures.exact (omega (arith, c.bytes.invariant.start));
 }
