@@ -12,6 +12,7 @@ mod element_config;
 mod ext_config;
 mod faults;
 mod format;
+pub mod laws;
 mod lists;
 mod reading;
 #[cfg(test)]
