@@ -8,6 +8,7 @@
 mod asc_config;
 mod fault;
 mod format;
+pub mod laws;
 mod reading;
 #[cfg(test)]
 mod tests;
