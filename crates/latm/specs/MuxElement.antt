@@ -1,7 +1,7 @@
 -- AudioMuxElement(1), field by field (ISO/IEC 14496-3).
 use Rattle.std.specs.Prelude.{ℕ, ◌+◌, Bool, not, ◌||◌, List, length, Option, Some, None, is_some, if◌then◌else◌}
 use Rattle.layout.specs.Layout.{Layout, both, shaped, wrapped, checked, where_set}
-use Rattle.layout.specs.Laws.{SpellsOnce}
+use Rattle.layout.specs.Laws.{SpellsOnce, IsDecidedWhole}
 use Rattle.layout.specs.Times.{times}
 use Rattle.layout.specs.ToEnd.{rest}
 use Rattle.bit_core.specs.declared.faults.ReadFault.TheVariants as reads
@@ -73,3 +73,7 @@ element before = shaped
 -- Whatever is in force, two elements with one spelling are the same.
 abbrev pub IsSpelledOnce : Type 0
 IsSpelledOnce = (before : Option MuxConfig) → SpellsOnce (element before)
+
+-- Whatever is in force, a text is an element or has a fault, and not both; and it has one fault at most.
+abbrev pub IsDecided : Type 0
+IsDecided = (before : Option MuxConfig) → IsDecidedWhole (element before)

@@ -4,14 +4,14 @@ use Rattle.std.specs.Prelude.{is_some, not}
 use Rattle.layout.specs.Exact.{IsExact, IsExactToEnd}
 use Rattle.layout.proofs.Layouts.{both-exact, shaped-exact, wrapped-exact, checked-exact, where_set-exact, times-exact}
 use Rattle.layout.proofs.ToEnd.{both-to_end, shaped-to_end, rest-to_end}
-use Rattle.layout.proofs.Whole.{spells_once}
+use Rattle.layout.proofs.Whole.{spells_once, decided_whole}
 use Rattle.bit_core.proofs.PlainFacts.{bit-exact, octets-exact, bit_run-exact}
 use Rattle.bit_core.specs.declared.faults.ReadFault.TheVariants as reads
 use Rattle.esc_value.proofs.SlotExact.{slot_exact}
 use Rattle.latm.specs.declared.mux_config.MuxConfig.{MuxConfig}
 use Rattle.latm.specs.Faults.{from_short, from_read}
 use Rattle.latm.specs.MuxConfigExact.{mux_config_exact}
-use Rattle.latm.specs.MuxElement.{IsSpelledOnce, then_in_force, slot_count, other_bits, same_refused, same, opening, slot_of_bytes, body, element}
+use Rattle.latm.specs.MuxElement.{IsSpelledOnce, IsDecided, then_in_force, slot_count, other_bits, same_refused, same, opening, slot_of_bytes, body, element}
 
 same-exact : (in_force : Bool) → IsExact (same in_force)
 same-exact in_force = checked-exact (same_refused in_force) _ (wrapped-exact from_short _ bit-exact)
@@ -36,3 +36,6 @@ element_exact before = shaped-to_end _ _ _ (both-to_end _ _ (opening-exact (is_s
 
 pub spelled_once : IsSpelledOnce
 spelled_once before = spells_once (element before) (element_exact before)
+
+pub decided : IsDecided
+decided before = decided_whole (element before) (element_exact before)

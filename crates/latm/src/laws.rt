@@ -1,9 +1,10 @@
-//! No spelling of one configuration begins another's, and no two elements are spelled the same under one configuration.
+//! No spelling of one configuration begins another's. Under what is in force bytes are one element at most, and are one
+//! exactly where they have no fault.
 //!
 //! The functions run no code; their contracts are the theorems.
 ghost use Rattle.layout.specs.Laws.{HasOneSpelling};
 ghost use Rattle.latm.specs.MuxConfig.{mux_config};
-ghost use Rattle.latm.specs.MuxElement.{element, IsSpelledOnce};
+ghost use Rattle.latm.specs.MuxElement.{IsSpelledOnce, IsDecided};
 
 /// No spelling of a StreamMuxConfig is a prefix of another's.
 pub fn mux_config_has_one_spelling()
@@ -13,4 +14,10 @@ pub fn mux_config_has_one_spelling()
 /// Under each configuration in force, and under none, two elements of the same bytes are the same element.
 pub fn elements_are_spelled_once()
     ensures { IsSpelledOnce }
+{}
+
+/// Under each configuration in force, and under none, bytes are an element exactly where they have no fault; and they have one
+/// fault at most.
+pub fn elements_are_decided()
+    ensures { IsDecided }
 {}
