@@ -9,3 +9,4 @@ pub mod FrameCounts
 pub mod Gathering
 pub mod Marks
 pub mod SegmentLists
+pub mod Written

@@ -9,3 +9,4 @@ pub mod Events
 pub mod Gathering
 pub mod Whole
 pub mod Pairs
+pub mod Written
