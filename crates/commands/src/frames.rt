@@ -117,7 +117,7 @@ pub fn run_source<T: Task, S: Source, K: Sink, C: Core>(
     }
 }
 
-/// The frames of an input, each given to a task.
+/// The frames of an input, each given to a task, in order and before the next one is read.
 #[derive(Drop)]
 pub struct Frames<T>(pub T);
 

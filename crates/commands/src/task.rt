@@ -17,7 +17,7 @@ use outside::Sink;
 use std::alloc::Global;
 use tool_text::Within;
 
-/// A command on the frames of one file, told frame by frame.
+/// A command on the frames of one file or of several, frame by frame. `docs/COMMANDS.md` says how to write one.
 pub trait Task {
     /// The type of what is known where a file begins: the further words of the command, the frames of the files before.
     ghost At: { Type 0 };
@@ -37,7 +37,10 @@ pub trait Task {
     /// How it stands, and the core is ready, behind these frames of a file that began there.
     ghost Stands: { Definitions → At → List Frame → Self → Option Running → Type 0 };
 
-    /// Handles a frame, of the StreamMuxConfig in force.
+    /// Handles a frame, of the StreamMuxConfig in force: writes what opens it, judges it, feeds its units and writes what it gives.
+    ///
+    /// Errors: `Refused` behind what opens the frame; `WriteFault` behind a front of what is written for it; `CoreFault` before its
+    /// last unit was fed; `Memory` behind a front of what is written for it.
     fn handle<K: Sink, C: Core>(
         &mut self,
         alloc: Global,
@@ -65,6 +68,8 @@ pub trait Task {
         ensures no_core { plays ≡ false → result ≢ Err FrameEnd.CoreFault };
 
     /// Refuses the file at its end, or writes what the command writes there.
+    ///
+    /// Errors: `Refused`; `WriteFault` and `Memory`, behind a front of that.
     fn close<K: Sink, C: Core>(&self, alloc: Global, out: &mut K) -> Result<(), FrameEnd>
         requires stands { (at : At) × (frames : List Frame) × (ready : Option Running) × Stands C.does at frames self.now ready }
         ensures closes { (at : At) (frames : List Frame) (ready : Option Running) → Stands C.does at frames self.now ready →

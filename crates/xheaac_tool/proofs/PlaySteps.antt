@@ -25,7 +25,7 @@ use Rattle.au_stream.specs.Frames.{Frame, config_of, last_of, IsChange, IsSame}
 use Rattle.commands.specs.Commands.{Takes}
 use Rattle.commands.specs.Handing.{WrotePart}
 use Rattle.commands.specs.OneFrame.{CausedBy, Handles, DidFrame, DidPart, DidSome, from_core, from_device}
-use Rattle.xheaac_tool.specs.Output.{at_frame, IsTooShort, IsLater, IsNoStart, PlayRefuses, Changes, TooShort, NoStart, IsServed, playing}
+use Rattle.xheaac_tool.specs.Output.{IsTooShort, IsLater, IsNoStart, PlayRefuses, Changes, TooShort, NoStart, IsServed, playing}
 use Rattle.xheaac_tool.specs.Stepping.{PlayStands, IsOpenable, ServesReset, reset_of, set_up, bytes_for}
 use Rattle.xheaac_tool.proofs.Outputs.{play_grows, play_stands}
 use Rattle.commands.proofs.Going.{append-none}

@@ -9,8 +9,8 @@ use Rattle.usac_frame.specs.AccessUnit.{IsFrame, unit_in}
 use Rattle.usac_frame.specs.Units.{UnitValue, payload_length}
 use Rattle.core_iface.specs.Decoding.{Definitions, out, samples_of}
 use Rattle.core_iface.specs.Samples.{sample_bytes}
+use Rattle.tool_text.specs.Faults.{at_frame}
 use Rattle.tool_text.specs.declared.refusal.Place.TheVariants as places
-use Rattle.tool_text.specs.declared.refusal.Reason.{Reason}
 use Rattle.tool_text.specs.declared.refusal.Reason.TheVariants as reasons
 use Rattle.tool_text.specs.declared.refusal.Refusal.{Refusal}
 use Rattle.au_stream.specs.Frames.{Frame, config_of, last_of, IsChange}
@@ -28,9 +28,6 @@ decoded d config units = samples_of (out d config (d.init config) units)
 abbrev pub output : Definitions → List Frame → List ℕ
 output d [] = []
 output d (f ∷ fs) = sample_bytes (decoded d (config_of f) (units_of (f ∷ fs)))
-
-abbrev pub at_frame : ℕ → Reason → Refusal
-at_frame frame reason = record { place = places.Frame frame; reason = reason }
 
 -- The access unit of a frame is no frame of its configuration, and has its first fault at that bit.
 pub record IsTooShort (before : List Frame) (f : Frame) (r : Refusal) : Type 0 where

@@ -19,6 +19,7 @@ mod unit_frame;
 mod words;
 
 pub use check::do_check;
+pub use commands::Outcome;
 pub use play::do_play;
 pub use show::do_show;
 pub use top::{run, run_line};

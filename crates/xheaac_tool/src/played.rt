@@ -8,7 +8,8 @@ ghost use Rattle.usac_frame.specs.AccessUnit.{IsFrame};
 ghost use Rattle.tool_text.specs.declared.refusal.Refusal.{Refusal as RefusalValue};
 ghost use Rattle.au_stream.specs.Frames.{Frame as StreamFrame, config_of};
 ghost use Rattle.au_stream.specs.Events.{IsEvent};
-ghost use Rattle.xheaac_tool.specs.Output.{at_frame, IsLater, IsNoStart};
+ghost use Rattle.tool_text.specs.Faults.{at_frame};
+ghost use Rattle.xheaac_tool.specs.Output.{IsLater, IsNoStart};
 ghost use Rattle.xheaac_tool.specs.Reading.{IsJudgement, Judges};
 ghost use Rattle.xheaac_tool.specs.Stepping.{Decodes, IsOpenable, ServesReset};
 
