@@ -1,4 +1,5 @@
-ghost use Rattle.std.specs.Prelude.{◌≡◌, ◌≤◌, length, false, IfOk, IfErr, OnOk};
+ghost use Rattle.std.specs.Prelude.{◌≡◌, ◌<◌, ◌≤◌, ◌↔◌, [], length, false, IsTrue, IfOk, IfErr, OnOk};
+ghost use Rattle.layout.specs.Reader.{left};
 ghost use Rattle.usac_cfg.specs.UsacConfig.{IsWellFormed};
 ghost use Rattle.usac_frame.specs.Frame.{FitsConfig};
 ghost use Rattle.preroll.specs.declared.fault.CarryFault.TheVariants.{BadConfig};
@@ -15,6 +16,13 @@ use std::alloc::Global;
 use usac_cfg::UsacConfig;
 use usac_frame::{Frame, first_payload, is_whole, payload_length};
 
+/// Whether more bits are left than may stand behind a configuration.
+fn has_byte_left(reader: &BitReader) -> bool
+    ensures { IsTrue result ↔ (7 < length (left reader.now)) }
+{
+    reader.left() > 7
+}
+
 /// Reads bytes that are a configuration and at most 7 further bits.
 fn read_config(alloc: Global, bytes: &[u8]) -> Result<UsacConfig, CarryFault>
     requires { length bytes.now ≤ 16777216 }
@@ -23,10 +31,17 @@ fn read_config(alloc: Global, bytes: &[u8]) -> Result<UsacConfig, CarryFault>
 {
     let mut reader = BitReader::new(bytes);
     let own = UsacConfig::read(alloc, &mut reader)?;
-    if reader.left() > 7 {
+    if has_byte_left(&reader) {
         return Err(CarryFault::BadConfig);
     }
     Ok(own)
+}
+
+/// Whether the preroll has no configuration of its own.
+fn is_left_out(bytes: &[u8]) -> bool
+    ensures { IsTrue result ↔ (bytes.now ≡ []) }
+{
+    bytes.is_empty()
 }
 
 /// Refuses a configuration that is not empty and not the frame's.
@@ -36,7 +51,7 @@ fn check_config(alloc: Global, config: &UsacConfig, bytes: &[u8]) -> Result<(), 
     ensures same { OnOk result (IsOtherConfig config.now bytes.now → ⊥) }
     ensures bad { IfErr result (λ e. is_want e ≡ false → IsConfigFault config.now bytes.now e) }
 {
-    if bytes.is_empty() {
+    if is_left_out(bytes) {
         return Ok(());
     }
     let own = read_config(alloc, bytes)?;

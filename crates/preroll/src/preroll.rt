@@ -19,9 +19,9 @@ pub type UnitBytes = Items<Octets>;
 ///
 /// ```text
 /// // no configuration, no crossfade, one access unit of one byte
-/// let preroll = read_preroll(alloc, &[0x04, 0x00, 0x06, 0x00])?;
+/// let preroll = read_preroll(alloc, &[0x01, 0x00, 0x01, 0x80])?;
 /// preroll.units     // one access unit, 80
-/// preroll.tail      // six zero bits
+/// preroll.tail      // no bits
 /// ```
 #[derive(Debug, Drop)]
 pub struct PreRoll {
