@@ -1,5 +1,5 @@
 -- A command on a source, from frame to frame and to its end.
-use Rattle.std.proofs.Common.{◌≡◌, ℕ, ◌+◌, ◌*◌, ◌<◌, ◌≤◌, true, List, [], ◌∷◌, ◌++◌, length, take, Option, Some, None, Result, Ok, Err, refl, sym, ap, subst, ◌∙◌, append_assoc, arith, inl, inr}
+use Rattle.std.proofs.Common.{◌≡◌, ℕ, ◌+◌, ◌*◌, ◌≤◌, true, List, [], ◌∷◌, ◌++◌, length, take, Option, Some, None, Result, Ok, Err, refl, sym, ap, subst, ◌∙◌, append_assoc, arith, inl, inr}
 use Rattle.std.specs.Option.{option_map}
 use Rattle.std.proofs.lemmas.List.{append-nil, take_all}
 use Rattle.std.proofs.Math.Seq.{take-append-add}
@@ -28,9 +28,9 @@ use Rattle.commands.specs.declared.frame_end.FrameEnd.TheVariants as frames
 use Rattle.commands.specs.declared.outcome.Outcome.{Outcome}
 use Rattle.commands.specs.declared.outcome.Outcome.TheVariants as is
 use Rattle.commands.specs.Commands.{Command, IsCommand, Takes, TakesAll, TakesEnd, units_over, work, most_units}
-use Rattle.commands.specs.OneFrame.{Handles, DidFrame, DidPart, DidOpening, DidSome, DidRefuse, CausedBy, HandlesEnd}
+use Rattle.commands.specs.OneFrame.{Handles, DidFrame, DidPart, CausedBy, HandlesEnd}
 use Rattle.commands.specs.Handing.{WrotePart}
-use Rattle.commands.specs.Ending.{Traces, WroteAll, WroteFront, WroteClosed, WroteClosedFront, Reaches, WroteOpened, WroteOpening, WroteUpTo, TakesFirst, Passes, Ends, refusal_of_mark}
+use Rattle.commands.specs.Ending.{Traces, WroteAll, WroteFront, WroteClosed, WroteClosedFront, Reaches, WroteOpened, TakesFirst, Passes, Ends, refusal_of_mark}
 use Rattle.commands.specs.Causes.{Counts, Caused}
 use Rattle.commands.specs.Doing.{GoesOn, DoesSource, IsRefusedBy, Becomes, BecomesOf, BecomesOfEnd, Handed, EndsHanding, DoesFrames}
 use Rattle.commands.proofs.Handing.{append-append}

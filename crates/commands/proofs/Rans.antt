@@ -1,5 +1,5 @@
 -- What the top call answers, from how the command ended.
-use Rattle.std.proofs.Common.{◌≡◌, ℕ, ◌<◌, List, Option, Some, refl, sym, ap, ◌∙◌, subst, arith, inl, inr, ◌⊎◌}
+use Rattle.std.proofs.Common.{◌≡◌, ℕ, ◌<◌, List, refl, sym, ap, ◌∙◌, subst, arith, inl, inr, ◌⊎◌}
 use Rattle.std.specs.Prelude.{◌≢◌}
 use Rattle.outside.specs.declared.sink.Sink
 use Rattle.commands.specs.Causes.{Counts, Caused}

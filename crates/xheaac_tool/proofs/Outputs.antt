@@ -1,5 +1,5 @@
 -- What the output of a command grows by at a frame.
-use Rattle.std.proofs.Common.{◌≡◌, ℕ, ◌+◌, List, [], ◌∷◌, ◌++◌, length, map, Option, None, ℤ, arith, refl, sym, ap, ◌∙◌, append_assoc, lit≤}
+use Rattle.std.proofs.Common.{◌≡◌, ℕ, ◌+◌, List, [], ◌∷◌, ◌++◌, length, Option, ℤ, arith, refl, sym, ap, ◌∙◌, append_assoc, lit≤}
 use Rattle.std.proofs.lemmas.List.{append-nil, map-append}
 use Rattle.core_iface.specs.Decoding.{Definitions, out, after, samples_of}
 use Rattle.core_iface.specs.Answering.{Running, running, stepped, emitted}
@@ -9,7 +9,7 @@ use Rattle.usac_frame.specs.Units.{UnitValue}
 use Rattle.usac_frame.specs.AccessUnit.{unit_in}
 use Rattle.au_stream.specs.Frames.{Frame, config_of}
 use Rattle.commands.specs.Commands.{IsCommand, Grows}
-use Rattle.xheaac_tool.specs.Output.{playing, units_of, output}
+use Rattle.xheaac_tool.specs.Output.{playing, units_of}
 use Rattle.xheaac_tool.specs.Stepping.{PlayStands, reset_of, set_up, bytes_for}
 use Rattle.xheaac_tool.specs.Showing.{shown_of, shown_from, showing}
 use Rattle.xheaac_tool.specs.Checking.{checking}

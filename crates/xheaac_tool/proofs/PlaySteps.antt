@@ -1,5 +1,5 @@
 -- One frame of `play`.
-use Rattle.std.proofs.Common.{◌≡◌, ℕ, zero, suc, ◌+◌, ◌<◌, true, false, List, [], ◌∷◌, ◌++◌, length, Option, Some, None, Err, ℤ, refl, sym, ap, subst, ◌∙◌, arith, inl, ◌≤◌, inr, ◌⊎◌}
+use Rattle.std.proofs.Common.{◌≡◌, ℕ, ◌+◌, ◌<◌, false, List, [], ◌∷◌, ◌++◌, length, Option, Some, None, Err, ℤ, refl, sym, ap, subst, ◌∙◌, arith, inl, ◌≤◌, inr, ◌⊎◌}
 use Rattle.std.specs.Prelude.{IsSome, IsTrue}
 use Rattle.std.specs.Io.KnownBytes.{append_known}
 use Rattle.usac_cfg.specs.declared.usac_config.UsacConfig.{UsacConfig}
@@ -25,7 +25,7 @@ use Rattle.au_stream.specs.Frames.{Frame, config_of, last_of, IsChange, IsSame}
 use Rattle.commands.specs.Commands.{Takes}
 use Rattle.commands.specs.Handing.{WrotePart}
 use Rattle.commands.specs.OneFrame.{CausedBy, Handles, DidFrame, DidPart, DidSome, from_core, from_device}
-use Rattle.xheaac_tool.specs.Output.{IsTooShort, IsLater, IsNoStart, PlayRefuses, Changes, TooShort, NoStart, IsServed, playing}
+use Rattle.xheaac_tool.specs.Output.{IsLater, IsNoStart, PlayRefuses, Changes, TooShort, NoStart, IsServed, playing}
 use Rattle.xheaac_tool.specs.Stepping.{PlayStands, IsOpenable, ServesReset, reset_of, set_up, bytes_for}
 use Rattle.xheaac_tool.proofs.Outputs.{play_grows, play_stands}
 use Rattle.commands.proofs.Going.{append-none}

@@ -1,4 +1,4 @@
-use Rattle.std.proofs.Common.{List, Err, arith, refl, sym, ◌∙◌, ap, subst}
+use Rattle.std.proofs.Common.{List, arith, refl, sym, ◌∙◌, ap, subst}
 use Rattle.layout.proofs.Layouts.{failed}
 use Rattle.commands.specs.declared.frame_end.FrameEnd.{FrameEnd}
 use Rattle.au_stream.specs.Frames.{Frame}

@@ -1,4 +1,4 @@
-use Rattle.std.proofs.Common.{◌≡◌, ℕ, arith, rules, sym, ◌∙◌, subst, Err}
+use Rattle.std.proofs.Common.{subst, Err}
 use Rattle.std.proofs.lemmas.Result.{err_from_is_err_and}
 use Rattle.usac_frame.specs.AccessUnit.{IsFrame}
 use Rattle.xheaac_tool.specs.Reading.{ReadsUnit}

@@ -1,10 +1,9 @@
-use Rattle.std.proofs.Common.{◌≡◌, true, List, ℕ, [], ◌++◌, refl, sym, ap, ◌∙◌, arith, Err}
+use Rattle.std.proofs.Common.{◌≡◌, ◌++◌, ap, ◌∙◌, arith}
 use Rattle.std.specs.Option.{option_copied}
 use Rattle.std.proofs.lemmas.Result.{err_from_is_err_and}
 use Rattle.core_iface.specs.Samples.{sample_bytes}
-use Rattle.usac_frame.specs.AccessUnit.{unit_in}
 use Rattle.au_stream.specs.Frames.{config_of}
-use Rattle.xheaac_tool.proofs.PlaySteps.{reset_is, openable, bytes_are, play_stopped, play_did, play_untaken, play_unwritten, play_failed, play_stood, unit_here, judged_caused, judged_no_write, judged_no_core}
+use Rattle.xheaac_tool.proofs.PlaySteps.{reset_is, openable, bytes_are, play_stopped, play_did, play_untaken, play_unwritten, play_failed, play_stood, unit_here, judged_caused}
 use Rattle.xheaac_tool.proofs.played.PlayTask.handle.Goals as goal
 
 pub returns-in_err-frame-clause-handles : goal.returns-in_err-frame-clause-handles
