@@ -1,4 +1,4 @@
-use Rattle.std.proofs.Common.{length, List, ℕ, sym, ap, ◌∙◌, arith}
+use Rattle.std.proofs.Common.{length, List, ℕ, ap, ◌∙◌, arith}
 use Rattle.std.proofs.lemmas.Grind.{common_steps}
 use Rattle.std.proofs.lemmas.Result.{err_from_is_err_and}
 use Rattle.usac_frame.specs.FrameExact.{payload_small}
