@@ -1,5 +1,5 @@
 -- The preroll that a payload is, or its fault (ISO/IEC 23003-3, AudioPreRoll).
-use Rattle.std.specs.Prelude.{◌≡◌, ℕ, List, Option, Some}
+use Rattle.std.specs.Prelude.{ℕ, List, Option}
 use Rattle.layout.specs.Text.{bits_of}
 use Rattle.layout.specs.Laws as Whole
 use Rattle.preroll.specs.declared.fault.PreFault.{PreFault}

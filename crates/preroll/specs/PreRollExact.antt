@@ -1,16 +1,14 @@
 -- A preroll is read exactly, and what follows from it.
-use Rattle.std.proofs.Common.{◌≡◌, ℕ, ◌-◌, ◌%◌, false, List, ◌++◌, length, replicate, Some, Result, Ok, Err, refl, ap, subst, ◌∙◌, append_assoc, arith}
+use Rattle.std.proofs.Common.{ℕ, List, refl, ap}
 use Rattle.layout.specs.Exact.{IsExact, IsExactToEnd}
 use Rattle.layout.specs.Laws.{SpellsOnce, IsDecidedWhole}
 use Rattle.layout.proofs.Every.{all_so}
-use Rattle.layout.proofs.Layouts.{both-exact, shaped-exact, wrapped-exact, times-exact, some_is}
+use Rattle.layout.proofs.Layouts.{both-exact, shaped-exact, wrapped-exact, times-exact}
 use Rattle.layout.proofs.ToEnd.{both-to_end, fitted-to_end, rest-to_end}
 use Rattle.layout.proofs.Whole.{spells_once, decided_whole}
 use Rattle.bit_core.specs.declared.faults.ReadFault.TheVariants as reads
 use Rattle.bit_core.proofs.PlainFacts.{bit-exact, octets-exact}
 use Rattle.esc_value.specs.EscapedExact.{escaped_exact}
-use Rattle.preroll.specs.declared.fault.PreFault.{PreFault}
-use Rattle.preroll.specs.declared.preroll.PreRoll.{PreRoll}
 use Rattle.preroll.specs.Faults.{from_short, from_read}
 use Rattle.preroll.specs.PreRoll.{flag, counted_bytes, units, HasBytes, IsWellFormed, preroll}
 
