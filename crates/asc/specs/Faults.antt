@@ -1,4 +1,4 @@
--- How the faults below become this layer's, and which are want of memory.
+-- How the faults below become this layer's, and which are out of memory.
 use Rattle.std.specs.Prelude.{Bool, true, false}
 use Rattle.bit_core.specs.declared.faults.Short.{Short}
 use Rattle.bit_core.specs.declared.faults.ReadFault.{ReadFault}
@@ -11,7 +11,7 @@ use Rattle.asc.specs.declared.fault.AscFault.TheVariants as faults
 abbrev pub from_short : Short → AscFault
 from_short s = faults.Short s.at
 
--- want of memory stays what it is
+-- out of memory stays what it is
 abbrev pub from_read : ReadFault → AscFault
 from_read (reads.Short s) = faults.Short s.at
 from_read (reads.Memory e) = faults.Memory e

@@ -32,7 +32,7 @@ impl Asc {
 
     /// Reads a configuration up to the end of its UsacConfig. It is well formed, and has no tail.
     ///
-    /// Errors: the fault of the leftmost field at fault, at its first bit, or want of memory; the reader stays where it was.
+    /// Errors: the fault of the leftmost field at fault, at its first bit, or out of memory; the reader stays where it was.
     pub fn read(alloc: Global, reader: &mut BitReader) -> Result<Asc, AscFault>
         ensures reads { ReadsUnless is_memory asc reader.old reader.new result }
 
@@ -51,7 +51,7 @@ impl Asc {
 
     /// Reads a configuration that takes all bits up to the reader's end, the last of them as its tail. It is well formed.
     ///
-    /// Errors: the fault of the leftmost field at fault, at its first bit, or want of memory; the reader stays where it was.
+    /// Errors: the fault of the leftmost field at fault, at its first bit, or out of memory; the reader stays where it was.
     pub fn read_counted(alloc: Global, reader: &mut BitReader) -> Result<Asc, AscFault>
         ensures reads { ReadsAllUnless is_memory asc_counted reader.old reader.new result }
 
@@ -70,7 +70,7 @@ impl Asc {
 
     /// Writes a well formed configuration, its tail behind it.
     ///
-    /// Errors: want of memory; nothing is written.
+    /// Errors: out of memory; nothing is written.
     #[tactic(auto, using(bit_core::proofs::Writing::extends_cut, bit_core::proofs::Writing::extends_long))]
     pub fn write(&self, writer: &mut BitWriter) -> Result<(), AllocError>
         requires { IsWellFormed self.now }
@@ -87,7 +87,7 @@ impl Asc {
         }
     }
 
-    /// A copy. The one error is want of memory.
+    /// A copy. The one error is out of memory.
     pub fn copy(&self, alloc: Global) -> Result<Asc, AllocError>
         ensures { IfOk result (λ copied. copied ≡ self.now) }
     {

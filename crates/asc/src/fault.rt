@@ -15,7 +15,7 @@ pub enum AscFault {
     /// The object type is another one than 42.
     #[error("not USAC")]
     NotUsac { at: u64, kind: u32 },
-    /// UsacConfig was not read, for this reason, which is never want of memory.
+    /// UsacConfig was not read, for this reason, which is never out of memory.
     #[error("bad configuration")]
     Cfg(CfgFault),
     /// More than 7 bits stand behind UsacConfig in a counted text. The field begins there.

@@ -105,7 +105,7 @@ fn read_tail(alloc: Global, reader: &mut BitReader) -> Result<Bits, AscFault>
     Ok(bits)
 }
 
-/// Reads a configuration without a tail. A refusal may stand behind some of its fields.
+/// Reads a configuration without a tail. On error some fields may already be consumed.
 pub fn read_plain_fields(alloc: Global, reader: &mut BitReader) -> Result<Asc, AscFault>
     ensures { GivesUnless is_memory plain_fields reader.old reader.new result }
 {
@@ -125,7 +125,7 @@ pub fn read_plain_fields(alloc: Global, reader: &mut BitReader) -> Result<Asc, A
     })
 }
 
-/// Reads a configuration with its tail. A refusal may stand behind some of its fields.
+/// Reads a configuration with its tail. On error some fields may already be consumed.
 pub fn read_counted_fields(alloc: Global, reader: &mut BitReader) -> Result<Asc, AscFault>
     ensures { GivesUnless is_memory counted_fields reader.old reader.new result }
 {

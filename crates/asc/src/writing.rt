@@ -1,4 +1,4 @@
-// The fields of a configuration, written in their order. A refusal may stand behind some of them.
+// The fields of a configuration, written in their order. On error some fields may already be written.
 ghost use Rattle.std.specs.Prelude.{◌≡◌, ◌++◌, OnOk};
 ghost use Rattle.bit_core.specs.Writer.{Extends};
 ghost use Rattle.asc.specs.Asc.{IsWellFormed, IsExplicit, explicit, asc_text};

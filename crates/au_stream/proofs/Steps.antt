@@ -274,7 +274,7 @@ reads_bad got given r new framer before now n frame fault h none t limit bad =
       leaves = tt;
     }
 
--- want of memory for the element
+-- out of memory for the element
 pub reads_no_memory : (got : List ℕ) (given : List Frame) (r new : Reading) (framer : Framer) (before now : Seen) (n : ℕ) (error : Rattle.std.specs.declared.alloc.AllocError.AllocError) → HasRead got given r → Takes most_bytes r.framer framer before now (Ok (Some n)) → pushed framer ≤ most_bytes
     → Reads got given r new before now (Err (Memory error))
 reads_no_memory got given r new framer before now n error h t limit =

@@ -17,11 +17,11 @@ pub enum StreamFault {
     /// The source has more than 268,435,456 bytes.
     #[error("too large")]
     TooLarge,
-    /// No LOAS frame stands where one is due, or the source ends within it. It is never want of memory.
+    /// No LOAS frame stands where one is due, or the source ends within it. It is never out of memory.
     #[error("bad framing")]
     Loas(LoasFault),
     /// The element whose first access unit has the number `frame`, counted from 0 over the source, is not read, for a
-    /// reason that is never want of memory. Its places count from the first bit of the element.
+    /// reason that is never out of memory. Its places count from the first bit of the element.
     #[error("bad element")]
     Mux { frame: u64, fault: MuxFault },
     /// There was no memory.

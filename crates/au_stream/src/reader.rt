@@ -99,7 +99,7 @@ impl AuReader {
     /// - `Loas`: no syncword stands where a LOAS frame is due, or the source ends within one.
     /// - `Mux`: an element is not read, by its first fault.
     /// - `TooLarge`: 268,435,456 bytes were taken, all whole elements in them were given, and there is a byte more.
-    /// - `Memory`: want of memory.
+    /// - `Memory`: out of memory.
     pub fn next<S: Source>(
         &mut self,
         alloc: Global,

@@ -20,7 +20,7 @@ use std::alloc::Global;
 /// - `Loas`: no syncword stands where a LOAS frame is due, or the source ends within one.
 /// - `Mux`: an element is not read, by its first fault.
 /// - `TooLarge`: 268,435,456 bytes were taken, all whole elements in them were read, and there is a byte more.
-/// - `Memory`: want of memory.
+/// - `Memory`: out of memory.
 pub fn read_stream<S: Source>(alloc: Global, source: &mut S) -> Result<Stream, StreamFault>
     ensures reads { ReadsWhole (seen S.left S.faults source.old) (seen S.left S.faults source.new) result }
     ensures well_formed { IfOk result (λ stream. IsWellFormed stream) }

@@ -1,4 +1,4 @@
--- Which faults of a reader are want of memory.
+-- Which faults of a reader are out of memory.
 use Rattle.std.specs.Prelude.{Bool, true, false}
 use Rattle.bit_core.specs.declared.faults.ReadFault.{ReadFault}
 use Rattle.bit_core.specs.declared.faults.ReadFault.TheVariants.{Short, Memory}

@@ -107,7 +107,7 @@ impl Bits {
 
     /// Adds a bit at the end.
     ///
-    /// The one error is want of memory, or of room where there are 2^62 bits, and leaves the list as it was.
+    /// The one error is out of memory, or of room where there are 2^62 bits, and leaves the list as it was.
     #[inline]
     pub fn push(&mut self, bit: bool) -> Result<(), AllocError>
         ensures ok { OnOk result (self.new ≡ self.old ++ bit ∷ []) }
@@ -137,7 +137,7 @@ impl Bits {
         self.len = len;
     }
 
-    /// A copy of the bits. The one error is want of memory.
+    /// A copy of the bits. The one error is out of memory.
     pub fn copy(&self, alloc: Global) -> Result<Bits, AllocError>
         ensures { IfOk result (λ bits. bits ≡ self.now) }
     {

@@ -38,7 +38,7 @@ pub fn flag(reader: &mut BitReader) -> Result<bool, Short>
 
 /// Puts a number of at most 8 bits, most significant bit first.
 ///
-/// Errors: want of memory; nothing is put.
+/// Errors: out of memory; nothing is put.
 pub fn put_small(writer: &mut BitWriter, value: u8, n: u32) -> Result<(), AllocError>
     requires short { n ≤ 8 }
     requires below { value < 2 ^ n }

@@ -61,7 +61,7 @@ impl<T> Items<T> {
 }
 
 impl<T: Drop> Items<T> {
-    /// Adds an item at the end. The one error is want of memory: the item is dropped, and the list is as it was.
+    /// Adds an item at the end. The one error is out of memory: the item is dropped, and the list is as it was.
     pub fn push(&mut self, item: T) -> Result<(), AllocError>
         ensures ok { OnOk result (self.new ≡ self.old ++ item ∷ []) }
         ensures err { OnErr result (self.new ≡ self.old) }
@@ -72,7 +72,7 @@ impl<T: Drop> Items<T> {
 }
 
 impl Items<u8> {
-    /// A copy. The one error is want of memory.
+    /// A copy. The one error is out of memory.
     pub fn copy(&self, alloc: Global) -> Result<Items<u8>, AllocError>
         ensures { IfOk result (λ copied. copied ≡ self.now) }
     {

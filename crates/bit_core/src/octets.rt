@@ -28,7 +28,7 @@ impl Octets {
         }
     }
 
-    /// A copy of some bytes. The one error is want of memory.
+    /// A copy of some bytes. The one error is out of memory.
     pub fn copy_of(alloc: Global, bytes: &[u8]) -> Result<Octets, AllocError>
         ensures { IfOk result (λ octets. octets ≡ bytes.now) }
     {
@@ -64,7 +64,7 @@ impl Octets {
         self.items.as_slice()
     }
 
-    /// Adds a byte at the end. The one error is want of memory, and leaves the list as it was.
+    /// Adds a byte at the end. The one error is out of memory, and leaves the list as it was.
     pub fn push(&mut self, item: u8) -> Result<(), AllocError>
         ensures ok { OnOk result (self.new ≡ self.old ++ item ∷ []) }
         ensures err { OnErr result (self.new ≡ self.old) }

@@ -150,7 +150,7 @@ impl<'a> BitReader<'a> {
 
     /// Takes n bytes, which may begin at any bit.
     ///
-    /// Errors: `Short` at the first of these bits, where fewer than 8 n are left, or want of memory; nothing is taken.
+    /// Errors: `Short` at the first of these bits, where fewer than 8 n are left, or out of memory; nothing is taken.
     pub fn take_bytes(&mut self, alloc: Global, n: u64) -> Result<Octets, ReadFault>
         ensures reads { ReadsUnless is_memory (wrapped ReadFault.Short (octets n)) self.old self.new result }
 
@@ -167,7 +167,7 @@ impl<'a> BitReader<'a> {
 
     /// Takes n bits as they are.
     ///
-    /// Errors: `Short` at the first of these bits, where fewer than n are left, or want of memory; nothing is taken.
+    /// Errors: `Short` at the first of these bits, where fewer than n are left, or out of memory; nothing is taken.
     pub fn take_bits(&mut self, alloc: Global, n: u64) -> Result<Bits, ReadFault>
         ensures reads { ReadsUnless is_memory (wrapped ReadFault.Short (bit_run n)) self.old self.new result }
 

@@ -10,7 +10,7 @@ use std::marker::Model;
 
 /// Holds the bits that were put into it, the first one first, and makes bytes of them.
 ///
-/// The one error of each call is want of memory, or of room for more than 2^62 bits. A refused put leaves the writer as it
+/// The one error of each call is out of memory, or of room for more than 2^62 bits. A refused put leaves the writer as it
 /// was.
 ///
 /// ```text
@@ -73,7 +73,7 @@ impl BitWriter {
 
     /// Puts one bit: 1 for true.
     ///
-    /// Errors: want of memory, or of room for more than 2^62 bits; nothing is put.
+    /// Errors: out of memory, or of room for more than 2^62 bits; nothing is put.
     #[inline]
     pub fn put_flag(&mut self, bit: bool) -> Result<(), AllocError>
         ensures ok { OnOk result (self.new ≡ self.old ++ bit ∷ []) }
@@ -84,7 +84,7 @@ impl BitWriter {
 
     /// Puts a number of at most 32 bits, most significant bit first.
     ///
-    /// Errors: want of memory, or of room for more than 2^62 bits; nothing is put.
+    /// Errors: out of memory, or of room for more than 2^62 bits; nothing is put.
     #[inline]
     pub fn put(&mut self, value: u32, n: u32) -> Result<(), AllocError>
         requires short { n ≤ 32 }
@@ -105,7 +105,7 @@ impl BitWriter {
 
     /// Puts bits as they are.
     ///
-    /// Errors: want of memory, or of room for more than 2^62 bits; nothing is put.
+    /// Errors: out of memory, or of room for more than 2^62 bits; nothing is put.
     pub fn put_bits(&mut self, bits: &Bits) -> Result<(), AllocError>
         ensures ok { OnOk result (self.new ≡ self.old ++ bits.now) }
         ensures err { OnErr result (self.new ≡ self.old) }
@@ -125,7 +125,7 @@ impl BitWriter {
 
     /// Puts bytes, the most significant bit of each first. They may begin at any bit.
     ///
-    /// Errors: want of memory, or of room for more than 2^62 bits; nothing is put.
+    /// Errors: out of memory, or of room for more than 2^62 bits; nothing is put.
     pub fn put_bytes(&mut self, bytes: &[u8]) -> Result<(), AllocError>
         ensures ok { OnOk result (self.new ≡ self.old ++ bits_of bytes.now) }
         ensures err { OnErr result (self.new ≡ self.old) }
@@ -145,7 +145,7 @@ impl BitWriter {
 
     /// The bytes that the bits spell, with the fewest zeros behind them that fill the last byte, at most 7.
     ///
-    /// Errors: want of memory; the bits are gone.
+    /// Errors: out of memory; the bits are gone.
     pub fn finish(self) -> Result<Octets, AllocError>
         ensures { IfOk result (λ octets. bits_of octets ≡ pad self) }
     {

@@ -64,7 +64,7 @@ at_seven is.CoreFault e = absurd (omega arith)
 at_seven (is.Memory error) e = absurd (omega arith)
 at_seven is.TooLarge e = refl
 
--- a status other than want of memory is the outcome's, and its text was noted
+-- a status other than out of memory is the outcome's, and its text was noted
 pub told_status : (n : Notes) (o : Outcome) (s k : ℕ) → Reports n (text_of o) (status_of o) s → s ≡ k → k ≢ 6 → (status_of o ≡ k) × Noted n (text_of o)
 told_status n o s k (inl (a, noted)) e ne = (sym a ∙ e, noted)
 told_status n o s k (inr (a, part)) e ne = absurd (ne (sym e ∙ a))

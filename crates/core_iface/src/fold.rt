@@ -10,7 +10,7 @@ use std::marker::Model;
 use usac_cfg::UsacConfig;
 use usac_frame::Unit;
 
-/// The example core, which decodes no audio. It never fails, but for want of memory.
+/// The example core, which decodes no audio. It never fails, but where memory runs out.
 ///
 /// The value of an independent unit is the sum of the places of its ones, modulo 32768; that of
 /// another unit takes in three times the value of the unit before. Its block is a ramp that starts

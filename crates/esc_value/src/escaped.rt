@@ -42,7 +42,7 @@ impl<const A: u32, const B: u32, const C: u32> Escaped<A, B, C> {
 
     /// Writes a number.
     ///
-    /// Errors: `TooLarge` where the number is above the sum of the largest numbers of A, B and C bits, or want of memory;
+    /// Errors: `TooLarge` where the number is above the sum of the largest numbers of A, B and C bits, or out of memory;
     /// nothing is written.
     pub fn write(value: u32, writer: &mut BitWriter) -> Result<(), EscFault>
         requires first { (1 ≤ A) × (A ≤ 16) }
@@ -61,7 +61,7 @@ impl<const A: u32, const B: u32, const C: u32> Escaped<A, B, C> {
 
     /// Puts a number that is known to be no larger than the fields can hold.
     ///
-    /// Errors: want of memory; nothing is put.
+    /// Errors: out of memory; nothing is put.
     #[tactic(auto, using(bit_core::proofs::Writing::extends_cut, bit_core::proofs::Writing::extends_long))]
     pub fn put(value: u32, writer: &mut BitWriter) -> Result<(), AllocError>
         requires first { (1 ≤ A) × (A ≤ 16) }
@@ -81,7 +81,7 @@ impl<const A: u32, const B: u32, const C: u32> Escaped<A, B, C> {
         }
     }
 
-    /// Adds up the fields. A refusal may stand behind some of them.
+    /// Adds up the fields. On error some fields may already be consumed.
     fn added_up(reader: &mut BitReader) -> Result<u32, Short>
         requires first { (1 ≤ A) × (A ≤ 16) }
         requires second { (1 ≤ B) × (B ≤ 16) }
@@ -100,7 +100,7 @@ impl<const A: u32, const B: u32, const C: u32> Escaped<A, B, C> {
         Ok(first + second + third)
     }
 
-    /// Puts the fields. A refusal may stand behind some of them.
+    /// Puts the fields. On error some fields may already be written.
     fn put_fields(value: u32, writer: &mut BitWriter) -> Result<(), AllocError>
         requires first { (1 ≤ A) × (A ≤ 16) }
         requires second { (1 ≤ B) × (B ≤ 16) }

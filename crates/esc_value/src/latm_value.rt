@@ -42,7 +42,7 @@ impl LatmValue {
 
     /// Writes a well formed number.
     ///
-    /// Errors: want of memory; nothing is written.
+    /// Errors: out of memory; nothing is written.
     #[tactic(auto, using(bit_core::proofs::Writing::extends_cut, bit_core::proofs::Writing::extends_long))]
     pub fn write(&self, writer: &mut BitWriter) -> Result<(), AllocError>
         requires { IsWellFormed self.now }

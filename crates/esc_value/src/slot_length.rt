@@ -33,7 +33,7 @@ impl SlotLength {
 
     /// Writes a length, in bytes.
     ///
-    /// Errors: want of memory; nothing is written.
+    /// Errors: out of memory; nothing is written.
     #[tactic(auto, using(bit_core::proofs::Writing::extends_cut, bit_core::proofs::Writing::extends_long))]
     pub fn write(length: u32, writer: &mut BitWriter) -> Result<(), AllocError>
         ensures ok { OnOk result (writer.new ≡ writer.old ++ slot_text length) }
@@ -50,7 +50,7 @@ impl SlotLength {
     }
 }
 
-/// Puts the bytes. A refusal may stand behind some of them.
+/// Puts the bytes. On error some fields may already be written.
 fn put_bytes(length: u32, writer: &mut BitWriter) -> Result<(), AllocError>
     ensures ok { OnOk result (writer.new ≡ writer.old ++ slot_text length) }
     ensures kept { Extends writer.old writer.new }
@@ -61,7 +61,7 @@ fn put_bytes(length: u32, writer: &mut BitWriter) -> Result<(), AllocError>
     writer.put(length % 255, 8)
 }
 
-/// Adds up bytes until one of them is not 255. A refusal may stand behind some of them.
+/// Adds up bytes until one of them is not 255. On error some fields may already be consumed.
 fn added_up(reader: &mut BitReader) -> Result<u32, Short>
     ensures exact { Gives slot reader.old reader.new result }
 {

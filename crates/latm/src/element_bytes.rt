@@ -28,7 +28,7 @@ fn finished(writer: BitWriter) -> Result<Octets, WriteFault>
 /// Writes an element whose configuration, where it has one, is well formed, and whose spelling makes whole bytes. It is an
 /// element under each configuration in force that says so many slots and so many bits of other data.
 ///
-/// Errors: `TooLong` exactly where it has more than 8191 bytes, or want of memory.
+/// Errors: `TooLong` exactly where it has more than 8191 bytes, or out of memory.
 pub fn write_element(alloc: Global, element: &MuxElement) -> Result<Octets, WriteFault>
     requires config { FitsOption IsWellFormed element.now.config }
     requires whole { length (element_text element.now) % 8 ≡ 0 }
@@ -55,7 +55,7 @@ fn with_header(alloc: Global, body: &[u8]) -> Result<Octets, AllocError>
 
 /// Writes the LOAS frame of an element: three bytes of header, and what `write_element` writes, under the same conditions.
 ///
-/// Errors: `TooLong` exactly where the element has more than 8191 bytes, or want of memory.
+/// Errors: `TooLong` exactly where the element has more than 8191 bytes, or out of memory.
 pub fn framed(alloc: Global, element: &MuxElement) -> Result<Octets, WriteFault>
     requires config { FitsOption IsWellFormed element.now.config }
     requires whole { length (element_text element.now) % 8 ≡ 0 }
@@ -116,7 +116,7 @@ fn canonical_body(alloc: Global, asc: Option<&Asc>, au: &[u8]) -> Result<Octets,
 /// Writes the LOAS frame of one access unit in the canonical mux: one slot, and the configuration where there is one. It is
 /// well formed, and its tail is left out.
 ///
-/// Errors: `TooLong` exactly where the element has more than 8191 bytes, or want of memory.
+/// Errors: `TooLong` exactly where the element has more than 8191 bytes, or out of memory.
 pub fn canonical(alloc: Global, asc: Option<&Asc>, au: &[u8]) -> Result<Octets, WriteFault>
     requires { FitsOption IsAscWellFormed (option_copied asc) }
     ensures { Frames (canonical_text (option_copied asc.entry) au.now) result }

@@ -133,7 +133,7 @@ fn read_own_body(
     }
 }
 
-/// Reads an element. A refusal may stand behind some of its fields.
+/// Reads an element. On error some fields may already be consumed.
 pub fn read_fields(
     alloc: Global,
     reader: &mut BitReader,

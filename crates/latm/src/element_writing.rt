@@ -1,4 +1,4 @@
-// The fields of an element, written in their order. A refusal may stand behind some of them.
+// The fields of an element, written in their order. On error some fields may already be written.
 ghost use Rattle.std.specs.Prelude.{◌≡◌, ◌++◌, ◌<◌, ◌≤◌, false, length, OnOk, IfOk, IfErr};
 ghost use Rattle.std.specs.List.{flat_map};
 ghost use Rattle.layout.specs.Layout.{FitsOption};

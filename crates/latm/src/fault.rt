@@ -35,7 +35,7 @@ pub enum MuxFault {
     /// The field has fewer bits than it needs.
     #[error("mux too short")]
     Short { at: u64 },
-    /// The AudioSpecificConfig was not read, for this reason, which is never want of memory.
+    /// The AudioSpecificConfig was not read, for this reason, which is never out of memory.
     #[error("bad configuration")]
     Asc(AscFault),
     /// There was no memory.

@@ -40,7 +40,7 @@ impl MuxConfig {
 
     /// Reads a configuration, which is well formed.
     ///
-    /// Errors: the fault of the leftmost field at fault, at its first bit, or want of memory; the reader stays where it was.
+    /// Errors: the fault of the leftmost field at fault, at its first bit, or out of memory; the reader stays where it was.
     /// The whole length of other data is one field, refused as soon as its number exceeds 65,535. Where `ascLen` exceeds the
     /// bits that are left, they are too few at the first bit behind it; else so many bits are judged by themselves.
     pub fn read(alloc: Global, reader: &mut BitReader) -> Result<MuxConfig, MuxFault>
@@ -61,7 +61,7 @@ impl MuxConfig {
 
     /// Writes a well formed configuration.
     ///
-    /// Errors: want of memory; nothing is written.
+    /// Errors: out of memory; nothing is written.
     #[tactic(auto, using(bit_core::proofs::Writing::extends_cut, bit_core::proofs::Writing::extends_long))]
     pub fn write(&self, writer: &mut BitWriter) -> Result<(), AllocError>
         requires { IsWellFormed self.now }

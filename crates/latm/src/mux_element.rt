@@ -32,7 +32,7 @@ pub struct MuxElement {
 /// Reads the bytes of an element, at most 16,777,216, under the configuration that is in force before it, where there is
 /// one. All bytes are the element.
 ///
-/// Errors: the fault of the leftmost field at fault, at its first bit, or want of memory. `NoConfig` comes exactly where
+/// Errors: the fault of the leftmost field at fault, at its first bit, or out of memory. `NoConfig` comes exactly where
 /// `useSameStreamMux` is 1 and nothing is in force.
 pub fn read_element(
     alloc: Global,

@@ -35,7 +35,7 @@ fn is_last(more: bool, bits: u32) -> bool
     bits > 65535 || !more
 }
 
-/// Reads pairs. A refusal may stand behind some of them.
+/// Reads pairs. On error some fields may already be consumed.
 pub fn read_run(reader: &mut BitReader) -> Result<Run, Short>
     ensures { Gives run reader.old reader.new result }
 {
@@ -63,7 +63,7 @@ fn write_pair(more: bool, byte: u8, writer: &mut BitWriter) -> Result<(), AllocE
     put_small(writer, byte, 8)
 }
 
-/// Writes so many pairs of 0, behind each of which another pair stands. A refusal may stand behind some of them.
+/// Writes so many pairs of 0, behind each of which another pair stands. On error some fields may already be written.
 fn write_zeros(count: u32, writer: &mut BitWriter) -> Result<(), AllocError>
     ensures ok { OnOk result (writer.new ≡ writer.old ++ more_text count 0) }
     ensures kept { Extends writer.old writer.new }
@@ -86,7 +86,7 @@ fn write_upper(count: u32, byte: u8, writer: &mut BitWriter) -> Result<(), Alloc
     Ok(())
 }
 
-/// Writes a number of at most 16 bits in so many pairs. A refusal may stand behind some of them.
+/// Writes a number of at most 16 bits in so many pairs. On error some fields may already be written.
 pub fn write_pairs(count: u32, bits: u32, writer: &mut BitWriter) -> Result<(), AllocError>
     requires some { 1 ≤ count }
     requires held { bits < 256 ^ count }

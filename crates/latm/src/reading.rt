@@ -164,7 +164,7 @@ fn read_last(
     Ok((other, crc))
 }
 
-/// Reads a configuration. A refusal may stand behind some of its fields.
+/// Reads a configuration. On error some fields may already be consumed.
 pub fn read_fields(alloc: Global, reader: &mut BitReader) -> Result<MuxConfig, MuxFault>
     ensures { GivesUnless is_memory fields reader.old reader.new result }
 {

@@ -55,7 +55,7 @@ impl Loas {
         }
     }
 
-    /// Takes the next bytes of the stream. The one error is want of memory.
+    /// Takes the next bytes of the stream. The one error is out of memory.
     ///
     /// The buffer has at most twice as many bytes then as are held.
     pub fn push(&mut self, piece: &[u8]) -> Result<(), AllocError>

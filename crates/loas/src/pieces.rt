@@ -17,7 +17,7 @@ pub struct StreamFrames {
 }
 
 /// The frames of the stream that comes in these pieces: each piece is pushed, and all frames are taken that are whole
-/// then. The answer is told by the joined bytes alone, however they are cut. The one error is want of memory.
+/// then. The answer is told by the joined bytes alone, however they are cut. The one error is out of memory.
 pub fn frames_of(alloc: Global, pieces: &[Octets]) -> Result<StreamFrames, AllocError>
     requires { length (joined pieces.now) < 2 ^ 63 }
     ensures { IfOk result (λ found. IsRead (joined pieces.now) found) }

@@ -13,7 +13,7 @@ has_failed (Err (Memory want)) = false
 abbrev pub IsFailed : {T : Type 0} → Result T DeviceFault → Type 0
 IsFailed result = IsTrue (has_failed result)
 
--- the answer is want of memory
+-- the answer is out of memory
 abbrev pub IsMemory : {T : Type 0} → Result T DeviceFault → Type 0
 IsMemory (Ok x) = ⊥
 IsMemory (Err Failed) = ⊥

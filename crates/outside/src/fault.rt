@@ -7,7 +7,7 @@ pub enum DeviceFault {
     /// The device refused. Its count of faults rose in this call.
     #[error("the device failed")]
     Failed,
-    /// Want of memory. The count of faults is as before.
+    /// Out of memory. The count of faults is as before.
     #[error("out of memory")]
     Memory(AllocError),
 }

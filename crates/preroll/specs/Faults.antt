@@ -1,4 +1,4 @@
--- How the faults below become a preroll's, and which are want of memory.
+-- How the faults below become a preroll's, and which are out of memory.
 use Rattle.std.specs.Prelude.{ℕ, Bool, true, false}
 use Rattle.bit_core.specs.declared.faults.Short.{Short}
 use Rattle.bit_core.specs.declared.faults.ReadFault.{ReadFault}
@@ -15,7 +15,7 @@ use Rattle.preroll.specs.declared.fault.CarryFault.TheVariants.{NotImmediate, Sp
 abbrev pub from_short : Short → PreFault
 from_short s = faults.Short s.at
 
--- want of memory stays what it is
+-- out of memory stays what it is
 abbrev pub from_read : ReadFault → PreFault
 from_read (reads.Short s) = faults.Short s.at
 from_read (reads.Memory e) = faults.Memory e
@@ -45,7 +45,7 @@ abbrev pub of_unit : ℕ → FrameFault → CarryFault
 of_unit k (frames.Short at) = BadUnit k at
 of_unit k (frames.Memory e) = Memory e
 
--- carrying failed for want of memory
+-- carrying failed out of memory
 abbrev pub is_want : CarryFault → Bool
 is_want NotImmediate = false
 is_want Split = false

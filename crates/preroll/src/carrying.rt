@@ -101,7 +101,7 @@ fn read_frames(
 /// The units that the preroll of a frame carries. The frame fits the configuration, which is well formed.
 ///
 /// Errors: the fault of the first of the eight rules of `CarryFault` that the frame breaks, each tried over all access units
-/// before the next; or want of memory.
+/// before the next; or out of memory.
 pub fn carried(
     alloc: Global,
     config: &UsacConfig,

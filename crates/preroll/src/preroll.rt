@@ -51,7 +51,7 @@ pub fn read_preroll(alloc: Global, payload: &[u8]) -> Result<PreRoll, PreFault>
 
 /// Writes a well formed preroll: the bytes of its spelling, with the fewest zero bits that fill the last byte.
 ///
-/// Errors: want of memory.
+/// Errors: out of memory.
 pub fn write_preroll(alloc: Global, preroll: &PreRoll) -> Result<Octets, AllocError>
     requires { IsWellFormed preroll.now }
     ensures { IfOk result (λ bytes. bits_of bytes ≡ pad (preroll_text preroll.now)) }

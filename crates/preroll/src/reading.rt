@@ -52,7 +52,7 @@ fn read_units(alloc: Global, reader: &mut BitReader) -> Result<UnitBytes, PreFau
     read_each(alloc, reader, count)
 }
 
-/// Reads a preroll up to the reader's end. A refusal may stand behind some of its fields.
+/// Reads a preroll up to the reader's end. On error some fields may already be consumed.
 pub fn read_fields(alloc: Global, reader: &mut BitReader) -> Result<PreRoll, PreFault>
     ensures { GivesUnless is_memory preroll reader.old reader.new result }
 {

@@ -1,4 +1,4 @@
-// The fields of a preroll, written in their order. A refusal may stand behind some of them.
+// The fields of a preroll, written in their order. On error some fields may already be written.
 ghost use Rattle.std.specs.Prelude.{◌≡◌, ◌≤◌, ◌++◌, length, OnOk};
 ghost use Rattle.std.specs.List.{flat_map, AllByRecursion};
 ghost use Rattle.preroll.specs.PreRoll.{HasBytes, IsWellFormed, counted_bytes, units as units_layout, preroll_text};

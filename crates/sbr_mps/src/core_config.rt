@@ -40,7 +40,7 @@ impl CoreConfig {
 
     /// Writes the settings.
     ///
-    /// Errors: want of memory; nothing is written.
+    /// Errors: out of memory; nothing is written.
     #[tactic(auto, using(bit_core::proofs::Writing::extends_cut, bit_core::proofs::Writing::extends_long))]
     pub fn write(&self, writer: &mut BitWriter) -> Result<(), AllocError>
         ensures ok { OnOk result (writer.new ≡ writer.old ++ core_config.spelling self.now) }

@@ -101,7 +101,7 @@ impl SbrConfig {
 
     /// Writes well formed settings.
     ///
-    /// Errors: want of memory; nothing is written.
+    /// Errors: out of memory; nothing is written.
     #[tactic(auto, using(bit_core::proofs::Writing::extends_cut, bit_core::proofs::Writing::extends_long))]
     pub fn write(&self, writer: &mut BitWriter) -> Result<(), AllocError>
         requires { IsWellFormed self.now }

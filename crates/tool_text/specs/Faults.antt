@@ -1,4 +1,4 @@
--- Which refusal a fault is. Want of memory is none.
+-- Which refusal a fault is. Out of memory is none.
 use Rattle.std.specs.Prelude.{ℕ, Option, Some, None}
 use Rattle.loas.specs.declared.fault.LoasFault.{LoasFault}
 use Rattle.loas.specs.declared.fault.LoasFault.TheVariants as streams

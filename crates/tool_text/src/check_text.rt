@@ -8,7 +8,7 @@ use std::alloc::{AllocError, Global};
 /// The line of a stream with its line feed: how many frames it has, how many runs of frames of one UsacConfig, how many frames
 /// that are independent, and how many immediate play-out frames.
 ///
-/// Errors: want of memory.
+/// Errors: out of memory.
 ///
 /// ```text
 /// frames 8, configurations 2, independent 3, immediate 1

@@ -1,4 +1,4 @@
-// Which refusal a fault is. Want of memory is none.
+// Which refusal a fault is. Out of memory is none.
 ghost use Rattle.std.specs.Prelude.{◌≡◌};
 ghost use Rattle.tool_text.specs.Faults.{at_bit, refusal_of_loas, refusal_of_cfg, refusal_of_asc, refusal_of_mux, at_frame, refusal_of_carry};
 
@@ -18,7 +18,7 @@ fn at_bit(frame: u64, bit: u64, reason: Reason) -> Refusal
     }
 }
 
-/// The refusal of a stream whose framing has this fault; `None` exactly where the fault is want of memory.
+/// The refusal of a stream whose framing has this fault; `None` exactly where the fault is out of memory.
 pub fn loas_refusal(fault: &LoasFault) -> Option<Refusal>
     ensures { result ≡ refusal_of_loas fault.now }
 {
@@ -66,7 +66,7 @@ fn asc_refusal(frame: u64, fault: &AscFault) -> Option<Refusal>
 }
 
 /// The refusal of an element that has this fault, and whose first access unit is the frame of this number; `None` exactly
-/// where the fault, or the one inside it, is want of memory. `NoConfig` is that of the element's first bit.
+/// where the fault, or the one inside it, is out of memory. `NoConfig` is that of the element's first bit.
 pub fn mux_refusal(frame: u64, fault: &MuxFault) -> Option<Refusal>
     ensures { result ≡ refusal_of_mux frame fault.now }
 {
@@ -90,7 +90,7 @@ fn at_frame(frame: u64, reason: Reason) -> Refusal
     }
 }
 
-/// The refusal of the frame of this number, whose preroll has this fault; `None` exactly where the fault is want of memory.
+/// The refusal of the frame of this number, whose preroll has this fault; `None` exactly where the fault is out of memory.
 pub fn carry_refusal(frame: u64, fault: &CarryFault) -> Option<Refusal>
     ensures { result ≡ refusal_of_carry frame fault.now }
 {

@@ -54,7 +54,7 @@ fn leading_text(alloc: Global, parts: &[ExtPart]) -> Result<String, AllocError>
 /// unit; and for each leading part the number of bytes of its payload, or a dash where the part is absent, with commas between
 /// them. Where there are no parts, the word `none` stands in their place.
 ///
-/// Errors: want of memory.
+/// Errors: out of memory.
 ///
 /// ```text
 /// frame 0 independent=1 bytes=40 leading=12

@@ -3,7 +3,7 @@
 //! AudioPreRoll with its access units, what was counted of a stream, and refusals.
 //!
 //! In the lines of a configuration and of a frame numbers are decimal, truth values are 0 or 1, bytes are lower-case hex, and a
-//! dash stands for what is absent or empty. A refusal is a place and a reason, behind the piece or the file where there are several; each fault of the crates below but want of memory
+//! dash stands for what is absent or empty. A refusal is a place and a reason, behind the piece or the file where there are several; each fault of the crates below but out of memory
 //! is one.
 #![tactic(auto)]
 

@@ -140,7 +140,7 @@ pub fn push_configuration(
 /// The lines of a well formed configuration, each with its line feed: the one of AudioSpecificConfig, the one of UsacConfig,
 /// the one of the channel positions where these are there, those of each element, and one for each extension.
 ///
-/// Errors: want of memory.
+/// Errors: out of memory.
 ///
 /// ```text
 /// asc index=3 rate=- channels=1 tail=0

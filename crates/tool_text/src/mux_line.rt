@@ -48,7 +48,7 @@ fn mux_line(alloc: Global, mux: &MuxConfig) -> Result<Octets, AllocError>
 /// of slots, latmBufferFullness, the number of bits of other data and crcCheckSum, and behind it those of
 /// [`configuration_lines`](crate::configuration_lines).
 ///
-/// Errors: want of memory.
+/// Errors: out of memory.
 ///
 /// ```text
 /// mux version=0 subframes=1 fullness=255 other=- crc=-

@@ -10,7 +10,7 @@ use std::alloc::{AllocError, Global};
 /// The line of a payload that is no AudioPreRoll, with its line feed: the first bit of the field that lacks bits, counted from
 /// the first bit of the payload.
 ///
-/// Errors: want of memory.
+/// Errors: out of memory.
 ///
 /// ```text
 /// preroll bad bit=88
@@ -57,7 +57,7 @@ fn push_units(alloc: Global, units: &[Octets], lines: &mut Items<Octets>) -> Res
 /// The lines of a preroll, each with its line feed: how many bytes its configuration has, applyCrossfade, the reserved bit, how
 /// many access units it carries, and how many bits stand behind them; and then each access unit with its number in hex.
 ///
-/// Errors: want of memory.
+/// Errors: out of memory.
 ///
 /// ```text
 /// preroll config=8 fade=0 reserved=0 units=1 tail=0

@@ -187,16 +187,19 @@ fn a_refusal_names_its_input(rt: HostRuntime) -> Result<(), Fail> {
     let line = refusal_line(alloc, Some(Within::Piece(63)), &refusal)?;
     assert_eq!(rt;
         line.as_slice(),
-        b"refused: piece 63: frame 7: not independent\n"
+        b"refused: piece 63: frame 7: not independent\n".as_slice()
     );
     let refusal = Refusal {
         place: Place::Whole,
         reason: Reason::NotIndependent,
     };
     let line = refusal_line(alloc, Some(Within::File(1)), &refusal)?;
-    assert_eq!(rt; line.as_slice(), b"refused: file 1: not independent\n");
+    assert_eq!(rt;
+        line.as_slice(),
+        b"refused: file 1: not independent\n".as_slice()
+    );
     let line = refusal_line(alloc, None, &refusal)?;
-    assert_eq!(rt; line.as_slice(), b"refused: not independent\n");
+    assert_eq!(rt; line.as_slice(), b"refused: not independent\n".as_slice());
     Ok(())
 }
 

@@ -1,4 +1,4 @@
--- How the faults below become a configuration's, and which are want of memory.
+-- How the faults below become a configuration's, and which are out of memory.
 use Rattle.std.specs.Prelude.{Bool, true, false}
 use Rattle.bit_core.specs.declared.faults.Short.{Short}
 use Rattle.bit_core.specs.declared.faults.ReadFault.{ReadFault}
@@ -9,7 +9,7 @@ use Rattle.usac_cfg.specs.declared.faults.CfgFault.TheVariants as faults
 abbrev pub from_short : Short → CfgFault
 from_short s = faults.Short s.at
 
--- want of memory stays what it is
+-- out of memory stays what it is
 abbrev pub from_read : ReadFault → CfgFault
 from_read (reads.Short s) = faults.Short s.at
 from_read (reads.Memory e) = faults.Memory e

@@ -24,7 +24,7 @@ pub struct ConfigExt {
 }
 
 impl ConfigExt {
-    /// A copy. The one error is want of memory.
+    /// A copy. The one error is out of memory.
     pub fn copy(&self, alloc: Global) -> Result<ConfigExt, AllocError>
         ensures { IfOk result (λ copied. copied ≡ self.now) }
     {
@@ -36,7 +36,7 @@ impl ConfigExt {
     }
 }
 
-/// Reads an extension. A refusal may stand behind some of its fields.
+/// Reads an extension. On error some fields may already be consumed.
 pub fn read_extension(alloc: Global, reader: &mut BitReader) -> Result<ConfigExt, CfgFault>
     ensures { GivesUnless is_memory config_ext reader.old reader.new result }
 {
@@ -46,7 +46,7 @@ pub fn read_extension(alloc: Global, reader: &mut BitReader) -> Result<ConfigExt
     Ok(ConfigExt { kind, bytes })
 }
 
-/// Writes an extension. A refusal may stand behind some of its fields.
+/// Writes an extension. On error some fields may already be written.
 pub fn write_extension(value: &ConfigExt, writer: &mut BitWriter) -> Result<(), AllocError>
     requires { IsWellFormed value.now }
     ensures ok { OnOk result (writer.new ≡ writer.old ++ config_ext.spelling value.now) }

@@ -53,7 +53,7 @@ pub enum ElementConfig {
 }
 
 impl ElementConfig {
-    /// A copy. The one error is want of memory.
+    /// A copy. The one error is out of memory.
     pub fn copy(&self, alloc: Global) -> Result<ElementConfig, AllocError>
         ensures { IfOk result (λ copied. copied ≡ self.now) }
     {
@@ -131,7 +131,7 @@ fn read_pair(reader: &mut BitReader, has_sbr: bool) -> Result<ElementConfig, Sho
     })
 }
 
-/// Reads the configuration of an element. A refusal may stand behind some of its fields.
+/// Reads the configuration of an element. On error some fields may already be consumed.
 pub fn read_element(
     alloc: Global,
     reader: &mut BitReader,

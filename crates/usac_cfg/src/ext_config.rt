@@ -31,7 +31,7 @@ pub struct ExtConfig {
 }
 
 impl ExtConfig {
-    /// A copy. The one error is want of memory.
+    /// A copy. The one error is out of memory.
     pub fn copy(&self, alloc: Global) -> Result<ExtConfig, AllocError>
         ensures { IfOk result (λ copied. copied ≡ self.now) }
     {
@@ -55,7 +55,7 @@ fn read_default_length(reader: &mut BitReader) -> Result<u32, CfgFault>
     Ok(0)
 }
 
-/// Reads the configuration of an extension element. A refusal may stand behind some of its fields.
+/// Reads the configuration of an extension element. On error some fields may already be consumed.
 pub fn read_ext(alloc: Global, reader: &mut BitReader) -> Result<ExtConfig, CfgFault>
     ensures { GivesUnless is_memory ext_config reader.old reader.new result }
 {
@@ -84,7 +84,7 @@ fn write_default_length(length: u32, writer: &mut BitWriter) -> Result<(), Alloc
     writer.put_flag(false)
 }
 
-/// Writes the configuration of an extension element. A refusal may stand behind some of its fields.
+/// Writes the configuration of an extension element. On error some fields may already be written.
 pub fn write_ext(value: &ExtConfig, writer: &mut BitWriter) -> Result<(), AllocError>
     requires { IsWellFormed value.now }
     ensures ok { OnOk result (writer.new ≡ writer.old ++ ext_config.spelling value.now) }

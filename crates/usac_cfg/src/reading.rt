@@ -199,7 +199,7 @@ pub fn goes_with_sbr(frame_index: u8) -> bool
     }
 }
 
-/// Reads a configuration. A refusal may stand behind some of its fields.
+/// Reads a configuration. On error some fields may already be consumed.
 pub fn read_fields(alloc: Global, reader: &mut BitReader) -> Result<UsacConfig, CfgFault>
     ensures { GivesUnless is_memory fields reader.old reader.new result }
 {

@@ -51,7 +51,7 @@ impl UsacConfig {
 
     /// Reads a configuration, which is well formed.
     ///
-    /// Errors: the fault of the leftmost field at fault, at its first bit, or want of memory; the reader stays where it was.
+    /// Errors: the fault of the leftmost field at fault, at its first bit, or out of memory; the reader stays where it was.
     pub fn read(alloc: Global, reader: &mut BitReader) -> Result<UsacConfig, CfgFault>
         ensures reads { ReadsUnless is_memory usac_config reader.old reader.new result }
 
@@ -70,7 +70,7 @@ impl UsacConfig {
 
     /// Writes a well formed configuration.
     ///
-    /// Errors: want of memory; nothing is written.
+    /// Errors: out of memory; nothing is written.
     #[tactic(auto, using(bit_core::proofs::Writing::extends_cut, bit_core::proofs::Writing::extends_long))]
     pub fn write(&self, writer: &mut BitWriter) -> Result<(), AllocError>
         requires { IsWellFormed self.now }
@@ -87,7 +87,7 @@ impl UsacConfig {
         }
     }
 
-    /// A copy. The one error is want of memory.
+    /// A copy. The one error is out of memory.
     pub fn copy(&self, alloc: Global) -> Result<UsacConfig, AllocError>
         ensures { IfOk result (λ copied. copied ≡ self.now) }
     {

@@ -1,4 +1,4 @@
-// The fields of a configuration, written in their order. A refusal may stand behind some of them.
+// The fields of a configuration, written in their order. On error some fields may already be written.
 ghost use Rattle.std.specs.Prelude.{◌≡◌, ◌++◌, ◌≤◌, ◌<◌, [], length, OnOk, OnErr};
 ghost use Rattle.std.specs.List.{flat_map, AllByRecursion};
 ghost use Rattle.layout.specs.Text.{num};

@@ -36,7 +36,7 @@ pub struct Frame {
 /// Reads an access unit of at most 16,777,216 bytes as a frame that fits the configuration. All bits of it are the frame.
 ///
 /// Errors: `Short` at the first bit of the leftmost field that lacks bits, exactly where the access unit is no such frame;
-/// or want of memory.
+/// or out of memory.
 pub fn read_frame(alloc: Global, config: &UsacConfig, au: &[u8]) -> Result<Frame, FrameFault>
     requires { length au.now ≤ 16777216 }
     ensures { ReadsText is_memory (frame config.now) (bits_of au.now) result }
@@ -47,7 +47,7 @@ pub fn read_frame(alloc: Global, config: &UsacConfig, au: &[u8]) -> Result<Frame
 
 /// Writes a frame that fits the configuration: the bytes of its spelling, with the fewest zero bits that fill the last byte.
 ///
-/// Errors: want of memory.
+/// Errors: out of memory.
 pub fn write_frame(alloc: Global, config: &UsacConfig, frame: &Frame) -> Result<Octets, AllocError>
     requires { FitsConfig config.now frame.now }
     ensures { IfOk result (λ bytes. bits_of bytes ≡ pad (frame_text config.now frame.now)) }

@@ -48,7 +48,7 @@ fn read_marks(reader: &mut BitReader, there: bool) -> Result<(bool, bool), Frame
     Ok((true, true))
 }
 
-/// Reads a part of an element. A refusal may stand behind some of its fields.
+/// Reads a part of an element. On error some fields may already be consumed.
 fn read_part(alloc: Global, reader: &mut BitReader, ext: &ExtConfig) -> Result<ExtPart, FrameFault>
     ensures { GivesUnless is_memory (part ext.now) reader.old reader.new result }
 {
@@ -85,7 +85,7 @@ fn read_parts(
     Ok(parts)
 }
 
-/// Reads a frame up to the reader's end. A refusal may stand behind some of its fields.
+/// Reads a frame up to the reader's end. On error some fields may already be consumed.
 pub fn read_fields(
     alloc: Global,
     config: &UsacConfig,

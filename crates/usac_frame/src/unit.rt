@@ -28,7 +28,7 @@ impl Unit {
         self.independent == other.independent && self.bits.same(&other.bits)
     }
 
-    /// A copy. The one error is want of memory.
+    /// A copy. The one error is out of memory.
     pub fn copy(&self, alloc: Global) -> Result<Unit, AllocError>
         ensures { IfOk result (λ copied. copied ≡ self.now) }
     {
@@ -40,7 +40,7 @@ impl Unit {
     }
 }
 
-/// The unit of a frame that fits the configuration. The one error is want of memory.
+/// The unit of a frame that fits the configuration. The one error is out of memory.
 pub fn unit_of(alloc: Global, config: &UsacConfig, frame: &Frame) -> Result<Unit, AllocError>
     requires { FitsConfig config.now frame.now }
     ensures { IfOk result (λ unit. unit ≡ unit_of config.now frame.now) }

@@ -1,4 +1,4 @@
-// The fields of a frame, written in their order. A refusal may stand behind some of them.
+// The fields of a frame, written in their order. On error some fields may already be written.
 ghost use Rattle.std.specs.Prelude.{◌≡◌, ◌++◌, OnOk};
 ghost use Rattle.usac_frame.specs.Part.{HasLength, AreMarks, IsPart, part_length, marks, part_text};
 ghost use Rattle.usac_frame.specs.Frame.{leading, FitParts, parts_text, FitsConfig, frame_text};

@@ -70,7 +70,7 @@ counts_more c now before f event config g e same is made h =
 
 -- ---- what is judged
 
--- a fault that is a refusal is no want of memory
+-- a fault that is a refusal is not out of memory
 pub is_judgement : (number : ℕ) (e : CarryFault) (r : Refusal) → refusal_of_carry number e ≡ Some r → is_want e ≡ false
 is_judgement number carries.NotImmediate r is = refl
 is_judgement number carries.Split r is = refl

@@ -50,7 +50,7 @@ EndsBy number e (ends.Memory a) = Unit {0}
 abbrev pub KeepsRules : UsacConfig → UsacFrame → Type 0
 KeepsRules c g = (e : CarryFault) → Breaks c g e → ⊥
 
--- the first rule that it breaks, as a refusal, or want of memory
+-- the first rule that it breaks, as a refusal, or out of memory
 abbrev pub BreaksRule : ℕ → UsacConfig → UsacFrame → FrameEnd → Type 0
 BreaksRule number c g (ends.Refused r) = (e : CarryFault) × IsFirst c g e × (refusal_of_carry number e ≡ Some r)
 BreaksRule number c g ends.WriteFault = ⊥

@@ -14,7 +14,7 @@ use Rattle.xheaac_tool.specs.Output.{PlayRefuses}
 use Rattle.commands.specs.declared.frame_end.FrameEnd.{FrameEnd}
 use Rattle.commands.specs.declared.frame_end.FrameEnd.TheVariants as ends
 
--- The frame that the access unit with that number is, or its first fault as a refusal, or want of memory.
+-- The frame that the access unit with that number is, or its first fault as a refusal, or out of memory.
 abbrev pub ReadsUnit : ℕ → UsacConfig → List ℕ → Result UsacFrame FrameEnd → Type 0
 ReadsUnit number c au (Ok g) = IsFrame c au g
 ReadsUnit number c au (Err (ends.Refused r)) =
