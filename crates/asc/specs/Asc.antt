@@ -1,9 +1,9 @@
 -- AudioSpecificConfig of object type 42, field by field (ISO/IEC 14496-3).
 use Rattle.std.specs.Prelude.{◌≡◌, ℕ, ◌+◌, ◌^◌, ◌<◌, ◌≤◌, Bool, true, false, List, [], ◌++◌, length, Option, Some, None, ◌==◌, if◌then◌else◌}
-use Rattle.layout.specs.Layout.{Layout, both, shaped, wrapped, checked, whole, known, behind, where_set}
+use Rattle.layout.specs.Layout.{Layout, both, shaped, with_fits, wrapped, checked, whole, known, behind, where_set}
 use Rattle.layout.specs.ToEnd.{tail}
 use Rattle.bit_core.specs.declared.faults.Short.{Short}
-use Rattle.bit_core.specs.Plain.{bits, short_at}
+use Rattle.bit_core.specs.Plain.{bits, number, short_at}
 use Rattle.usac_cfg.specs.UsacConfig.{IsWellFormed as IsUsacWellFormed}
 use Rattle.usac_cfg.specs.Spelling.{usac_config}
 use Rattle.asc.specs.declared.asc_config.Asc.{Asc}
@@ -25,10 +25,6 @@ pub record IsWellFormed (v : Asc) : Type 0 where
   pub usac : IsUsacWellFormed v.usac
   pub tail : length v.tail ≤ 7
 
--- a number of n bits
-abbrev pub number : ℕ → Layout ℕ AscFault
-number n = wrapped from_short (bits n)
-
 -- audioObjectType: five bits, and six more where these are all ones
 abbrev pub type_fields : Layout (ℕ × Option ℕ) Short
 type_fields = both (bits 5) (λ n. where_set (n == 31) (bits 6))
@@ -47,7 +43,7 @@ object_type = shaped (λ _. (31, Some 10)) (λ _. tt) (checked not_usac (wrapped
 
 -- samplingFrequency, where the index is 15; else 0 and no bits
 abbrev pub explicit : Bool → Layout ℕ AscFault
-explicit true = number 24
+explicit true = number from_short 24
 explicit false = known 0
 
 -- all fields but the tail
@@ -55,7 +51,7 @@ abbrev pub head : Layout Head AscFault
 head = behind object_type (shaped
     (λ v. (v.index, (v.explicit_rate, (v.channels, v.usac))))
     (λ (index, (explicit_rate, (channels, usac))). record { index = index; explicit_rate = explicit_rate; channels = channels; usac = usac })
-    (both (number 4) (λ index. both (explicit (index == 15)) (λ _. both (number 4) (λ _. wrapped from_cfg usac_config)))))
+    (both (number from_short 4) (λ index. both (explicit (index == 15)) (λ _. both (number from_short 4) (λ _. wrapped from_cfg usac_config)))))
 
 abbrev pub too_long : ℕ → AscFault
 too_long at = faults.TailTooLong at
@@ -79,12 +75,7 @@ asc_text v = head.spelling (head_of v) ++ v.tail
 
 -- The well formed configurations without a tail.
 abbrev pub asc : Layout Asc AscFault
-asc = record {
-  Fits = λ v. IsWellFormed v × (v.tail ≡ []);
-  spelling = plain_fields.spelling;
-  Faults = plain_fields.Faults;
-  read = plain_fields.read;
-}
+asc = with_fits (λ v. IsWellFormed v × (v.tail ≡ [])) plain_fields
 
 -- The well formed configurations with their tails, which take all of a text.
 abbrev pub asc_counted : Layout Asc AscFault

@@ -6,18 +6,15 @@ use Rattle.layout.specs.Layout.{wrapped, whole, checked}
 use Rattle.layout.specs.Exact.{IsExact, IsExactToEnd}
 use Rattle.layout.proofs.Layouts.{both-exact, shaped-exact, wrapped-exact, checked-exact, whole-exact, where_set-exact, known-exact, behind-exact, same-exact, both-open, where_set-open, field-open}
 use Rattle.layout.proofs.ToEnd.{both-to_end, shaped-to_end, same-to_end, tail-to_end}
-use Rattle.layout.specs.Fields.{number as number_field}
+use Rattle.layout.specs.Fields.{number_field}
 use Rattle.bit_core.specs.Plain.{short_at}
-use Rattle.bit_core.proofs.PlainFacts.{bits-exact}
+use Rattle.bit_core.proofs.PlainFacts.{bits-exact, number-exact}
 use Rattle.usac_cfg.specs.UsacExact.{usac_config_exact}
 use Rattle.asc.specs.declared.asc_config.Asc.{Asc}
 use Rattle.asc.specs.declared.fault.AscFault.{AscFault}
 use Rattle.asc.specs.declared.fault.AscFault.TheVariants as faults
 use Rattle.asc.specs.Faults.{from_short, from_cfg}
-use Rattle.asc.specs.Asc.{IsWellFormed, IsExplicit, number, type_fields, not_usac, object_type, explicit, head, head_of, too_long, plain_fields, counted_fields, asc, asc_counted}
-
-number-exact : (n : ℕ) → IsExact (number n)
-number-exact n = wrapped-exact from_short _ (bits-exact n)
+use Rattle.asc.specs.Asc.{IsWellFormed, IsExplicit, type_fields, not_usac, object_type, explicit, head, head_of, too_long, plain_fields, counted_fields, asc, asc_counted}
 
 type_fields-exact : IsExact type_fields
 type_fields-exact = both-exact _ _ (bits-exact 5) (λ n. where_set-exact (n == 31) _ (bits-exact 6))
@@ -50,11 +47,11 @@ object_type-exact : IsExact object_type
 object_type-exact = shaped-exact {A = ℕ × Option ℕ} {B = Unit {0}} (λ _. pair 31 (Some 10)) (λ _. tt) (checked not_usac (wrapped from_short (whole short_at type_fields))) (checked-exact not_usac _ whole_type-exact) (λ a h. one_type a.0 a.1 h.0 h.1) (λ b h. refl)
 
 explicit-exact : (b : Bool) → IsExact (explicit b)
-explicit-exact true = number-exact 24
+explicit-exact true = number-exact from_short 24
 explicit-exact false = known-exact 0
 
 pub head-exact : IsExact head
-head-exact = behind-exact _ _ object_type-exact (shaped-exact _ _ _ (both-exact _ _ (number-exact 4) (λ index. both-exact _ _ (explicit-exact (index == 15)) (λ _. both-exact _ _ (number-exact 4) (λ _. wrapped-exact from_cfg _ usac_config_exact)))) (λ a h. refl) (λ b h. refl))
+head-exact = behind-exact _ _ object_type-exact (shaped-exact _ _ _ (both-exact _ _ (number-exact from_short 4) (λ index. both-exact _ _ (explicit-exact (index == 15)) (λ _. both-exact _ _ (number-exact from_short 4) (λ _. wrapped-exact from_cfg _ usac_config_exact)))) (λ a h. refl) (λ b h. refl))
 
 plain-exact : IsExact plain_fields
 plain-exact = shaped-exact _ _ _ (both-exact _ _ head-exact (λ _. known-exact [])) (λ a h. refl) (λ b h. refl)

@@ -13,6 +13,16 @@ use usac_cfg::UsacConfig;
 ///
 /// Well formed where each number fits in its bits, `explicit_rate` is 0 where `index` is not 15, `usac` is well formed and
 /// `tail` has at most 7 bits.
+///
+/// ```text
+/// audioObjectType          5   31: the escape
+/// audioObjectTypeExt       6   10: the type is 32 + 10, USAC
+/// samplingFrequencyIndex   4
+/// samplingFrequency        24  where the index is 15
+/// channelConfiguration     4
+/// UsacConfig
+/// the tail                     in a counted text: up to 7 bits, to its end
+/// ```
 #[derive(Debug, Drop)]
 pub struct Asc {
     /// `samplingFrequencyIndex`, from 0 to 15.

@@ -1,10 +1,4 @@
-//   audioObjectType          5   31: the escape
-//   audioObjectTypeExt       6   10: the type is 32 + 10, USAC
-//   samplingFrequencyIndex   4
-//   samplingFrequency        24  where the index is 15
-//   channelConfiguration     4
-//   UsacConfig
-//   the tail                     in a counted text: up to 7 bits, to its end
+// The fields of an AudioSpecificConfig, read in their order.
 ghost use Rattle.std.specs.Prelude.{◌≡◌, ◌<◌, IfOk};
 ghost use Rattle.layout.specs.Layout.{FitsOption};
 ghost use Rattle.layout.specs.Reading.{Gives, GivesUnless};
@@ -27,7 +21,7 @@ pub struct Head {
     pub usac: UsacConfig,
 }
 
-/// Reads the fields of an object type. A refusal may stand behind the first of them.
+/// Reads the fields of an object type. On error the first of them may already be consumed.
 fn read_type_fields(reader: &mut BitReader) -> Result<(u32, Option<u32>), Short>
     ensures gives { Gives type_fields reader.old reader.new result }
     ensures small { IfOk result (λ x. (x.0 < 32) × FitsOption (λ m. m < 64) x.1) }

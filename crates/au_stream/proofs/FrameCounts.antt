@@ -19,19 +19,19 @@ pairs_under : (m : MuxConfig) (opens : Bool) (slots : List (List ℕ)) → map a
 pairs_under m opens [] = refl
 pairs_under m opens (au ∷ slots) = ap (λ (x : List (UsacConfig × List ℕ)). (m.asc.usac, au) ∷ x) (pairs_under m false slots)
 
-pairs_own : (in_force : Option MuxConfig) (opens : Bool) (slots : List (List ℕ)) → map as_pair (frames_under in_force opens slots) ≡ streams.frames_under in_force slots
+pairs_own : (in_force : Option MuxConfig) (opens : Bool) (slots : List (List ℕ)) → map as_pair (frames_under in_force opens slots) ≡ streams.slots_under in_force slots
 pairs_own None opens slots = refl
 pairs_own (Some m) opens slots = pairs_under m opens slots
 
-pub pairs_from : (before : Option MuxConfig) (es : List MuxElement) → map as_pair (frames_from before es) ≡ streams.frames_from before es
+pub pairs_from : (before : Option MuxConfig) (es : List MuxElement) → map as_pair (frames_from before es) ≡ streams.slots_from before es
 pairs_from before [] = refl
 pairs_from before (e ∷ es) =
     let m = then_in_force before e.config in
     map-append as_pair (frames_under m (is_some e.config) e.slots) (frames_from m es)
     ∙ ap (λ (x : List (UsacConfig × List ℕ)). x ++ map as_pair (frames_from m es)) (pairs_own m (is_some e.config) e.slots)
-    ∙ ap (λ (x : List (UsacConfig × List ℕ)). streams.frames_under m e.slots ++ x) (pairs_from m es)
+    ∙ ap (λ (x : List (UsacConfig × List ℕ)). streams.slots_under m e.slots ++ x) (pairs_from m es)
 
-pub length-pairs : (before : Option MuxConfig) (es : List MuxElement) → length (streams.frames_from before es) ≡ length (frames_from before es)
+pub length-pairs : (before : Option MuxConfig) (es : List MuxElement) → length (streams.slots_from before es) ≡ length (frames_from before es)
 length-pairs before es = ap (λ (x : List (UsacConfig × List ℕ)). length x) (sym (pairs_from before es)) ∙ length-map (frames_from before es) as_pair
 
 -- ---- their number

@@ -9,7 +9,7 @@ use Rattle.layout.proofs.Layouts.{prefix_free}
 use Rattle.layout.proofs.TextLemmas.{length-bits_of, bits_of-append}
 use Rattle.bit_core.specs.Plain.{bits, octets}
 use Rattle.bit_core.proofs.PlainFacts.{octets-exact}
-use Rattle.loas.specs.Framing.{framed, IsFrameBody}
+use Rattle.loas.specs.Framing.{framed, header, IsFrameBody}
 use Rattle.loas.specs.Framer.{Framer}
 use Rattle.loas.specs.Giving.{Takes}
 use Rattle.loas.specs.declared.framed.Framed.{Framed}
@@ -24,7 +24,7 @@ use Rattle.latm.specs.declared.stream.Stream.{Stream}
 use Rattle.latm.specs.Faults.{is_memory}
 use Rattle.latm.specs.MuxElement.{element, then_in_force}
 use Rattle.latm.specs.Stream.{AreElements, IsWellFormed}
-use Rattle.latm.specs.Written.{element_text, header, Frames}
+use Rattle.latm.specs.Written.{element_text, Frames}
 use Rattle.au_stream.specs.Elements.{IsElement, Carries}
 use Rattle.au_stream.specs.Script.{most_bytes}
 use Rattle.au_stream.specs.Whole.{IsStream}

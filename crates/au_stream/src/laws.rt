@@ -11,7 +11,7 @@ ghost use Rattle.latm.specs.declared.mux_element.MuxElement.{MuxElement};
 ghost use Rattle.latm.specs.declared.stream.Stream.{Stream};
 ghost use Rattle.latm.specs.Faults.{is_memory};
 ghost use Rattle.latm.specs.MuxElement.{element};
-ghost use Rattle.latm.specs.Stream.{IsWellFormed, frames_from as pairs_from};
+ghost use Rattle.latm.specs.Stream.{IsWellFormed, slots_from};
 ghost use Rattle.au_stream.specs.Elements.{IsElement, Carries};
 ghost use Rattle.au_stream.specs.Frames.{Frame, frames_from};
 ghost use Rattle.au_stream.specs.Pairs.{as_pair};
@@ -34,7 +34,7 @@ pub fn has_frames()
 
 /// The frames of elements, each by its configuration and its access unit, are those of the stream of these elements.
 pub fn frames_of_a_stream()
-    ensures { (elements : List MuxElement) → map as_pair (frames_from None elements) ≡ pairs_from None elements }
+    ensures { (elements : List MuxElement) → map as_pair (frames_from None elements) ≡ slots_from None elements }
 {}
 
 /// Under one configuration in force, or none, bytes begin with the LOAS frame of one element at most. An element has one LOAS

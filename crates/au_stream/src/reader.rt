@@ -29,6 +29,17 @@ use usac_cfg::UsacConfig;
 ///
 /// An element is read whole before its first access unit is given, and all whole elements that are held are given before
 /// more is read. Of the elements before it the reader keeps the configuration in force alone, so its memory does not grow.
+///
+/// An example, which is a test of this crate: the length of the longest access unit, in bytes.
+///
+/// ```text
+/// let mut reader = AuReader::new(alloc);
+/// let mut longest = 0;
+/// while let Some(event) = reader.next(alloc, source)? {
+///     longest = longest.max(event.au.len());
+/// }
+/// Ok(longest)
+/// ```
 #[derive(Drop)]
 pub struct AuReader {
     frames: FrameReader,

@@ -4,7 +4,8 @@ ghost use Rattle.std.specs.Prelude.{◌≤◌};
 use crate::{AuReader, Event, StreamFault, read_stream};
 use latm::MuxFault;
 use loas::LoasFault;
-use outside::{FromShelf, MemShelf, Shelf};
+use outside::{FromShelf, MemShelf, Shelf, Source};
+use std::alloc::Global;
 use std::process::Abort;
 use std::test::Fail;
 use vectors::{EIGHT_FRAMES, bytes_of};
@@ -265,4 +266,25 @@ fn answers_a_read_that_fails(rt: HostRuntime) -> Result<(), Fail> {
         &[opening(true, None), going_on(0x10, None)],
         End::ReadFault,
     )
+}
+
+// The example at `AuReader`.
+fn longest<S: Source>(alloc: Global, source: &mut S) -> Result<u64, StreamFault> {
+    let mut reader = AuReader::new(alloc);
+    let mut longest = 0;
+    while let Some(event) = reader.next(alloc, source)? {
+        longest = longest.max(event.au.len());
+    }
+    Ok(longest)
+}
+
+#[test]
+fn the_example_finds_the_longest(rt: HostRuntime) -> Result<(), Fail> {
+    let alloc = rt.alloc();
+    let mut shelf = MemShelf::new(alloc, 8192, &[])?;
+    shelf.add("in", &bytes_of(alloc, EIGHT_FRAMES)?)?;
+    let id = shelf.begin(alloc, "in")?;
+    let found = longest(alloc, &mut FromShelf::new(&mut shelf, id))?;
+    assert_eq!(rt; found, 1);
+    Ok(())
 }

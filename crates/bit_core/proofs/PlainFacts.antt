@@ -5,26 +5,37 @@ use Rattle.std.specs.List.{flat_map, AllByRecursion}
 use Rattle.layout.specs.Text.{num, is_odd, bits_of}
 use Rattle.layout.specs.Reader.{Reader, left, moved}
 use Rattle.layout.specs.Layout.{Layout, wrapped, error_mapped}
-use Rattle.layout.specs.Fields.{number, flag, run, none_refused, parsed}
+use Rattle.layout.specs.Fields.{number_field, flag_field, run_field, none_refused, parsed}
 use Rattle.layout.specs.Times.{times}
 use Rattle.layout.specs.Reading.{Gives, GivesUnless}
 use Rattle.layout.specs.Exact.{IsExact}
 use Rattle.layout.proofs.TextLemmas.{length-num, length-bits_of, left_parts}
-use Rattle.layout.proofs.Layouts.{field-exact, number-field, flag-field, run-field, number_none, times-exact, times-open, whole-exact, field-open, whole_short, run_none}
+use Rattle.layout.proofs.Layouts.{field-exact, number-field, flag-field, run-field, number_none, times-exact, times-open, whole-exact, wrapped-exact, field-open, whole_short, run_none}
+use Rattle.bit_core.specs.declared.faults.ReadFault.{ReadFault}
+use Rattle.bit_core.specs.declared.faults.ReadFault.TheVariants as reads
 use Rattle.bit_core.specs.declared.faults.Short.{Short}
-use Rattle.bit_core.specs.Plain.{bits, bit, octets, bit_run, short_at}
+use Rattle.bit_core.specs.Plain.{bits, bit, octets, bit_run, short_at, number, flag, run_of_bytes}
 
 pub bits-exact : (n : ℕ) → IsExact (bits n)
-bits-exact n = field-exact short_at none_refused (number n) (number-field n)
+bits-exact n = field-exact short_at none_refused (number_field n) (number-field n)
 
 pub bit-exact : IsExact bit
-bit-exact = field-exact short_at none_refused flag flag-field
+bit-exact = field-exact short_at none_refused flag_field flag-field
 
 pub bit_run-exact : (n : ℕ) → IsExact (bit_run n)
-bit_run-exact n = field-exact short_at none_refused (run n) (run-field n)
+bit_run-exact n = field-exact short_at none_refused (run_field n) (run-field n)
 
 pub octets-exact : (n : ℕ) → IsExact (octets n)
-octets-exact n = whole-exact short_at (times n (bits 8)) (times-exact n (bits 8) (bits-exact 8)) (times-open n (bits 8) (field-open short_at (number 8) 0 (omega arith)))
+octets-exact n = whole-exact short_at (times n (bits 8)) (times-exact n (bits 8) (bits-exact 8)) (times-open n (bits 8) (field-open short_at (number_field 8) 0 (omega arith)))
+
+pub number-exact : {F : Type 0} (wrap : Short → F) (n : ℕ) → IsExact (number wrap n)
+number-exact wrap n = wrapped-exact wrap _ (bits-exact n)
+
+pub flag-exact : {F : Type 0} (wrap : Short → F) → IsExact (flag wrap)
+flag-exact wrap = wrapped-exact wrap _ bit-exact
+
+pub run_of_bytes-exact : {F : Type 0} (wrap : ReadFault → F) (n : ℕ) → IsExact (run_of_bytes wrap n)
+run_of_bytes-exact wrap n = wrapped-exact wrap _ (wrapped-exact (λ s. reads.Short s) _ (octets-exact n))
 
 pub number_gives : (n : ℕ) (old new : Reader) (r : Result ℕ Short) → IfOk r (λ v. v < 2 ^ n) → IfOk r (λ v. left old ≡ num n v ++ left new) → OnOk r (new ≡ moved old n)
     → (IsErr r ↔ (length (left old) < n)) → IfErr r (λ e. e.at ≡ old.at) → OnErr r (new ≡ old) → Gives (bits n) old new r

@@ -1,7 +1,7 @@
 ghost use Rattle.std.specs.Prelude.{◌≡◌, ◌+◌, ◌*◌, ◌/◌, ◌<◌, ◌≤◌, ◌↔◌, ◌++◌, ◌∷◌, [], ℕ, length, take, drop, slice_get, slice_index, IsTrue, IfOk, OnOk, OnErr};
 ghost use Rattle.layout.specs.Text.{bits_of, value_after};
 ghost use Rattle.bit_core.specs.Trim.{trimmed};
-ghost use Rattle.bit_core.specs.Words.{zeros, spread, text_of, Holds};
+ghost use Rattle.bit_core.specs.Words.{zeros, spread, text_of, Holds, IsPacked};
 
 use crate::words::{MOST_BITS, cut_words, in_range, push_from, push_word};
 use std::alloc::{AllocError, Global};
@@ -57,6 +57,15 @@ impl Bits {
             words: Vec::new(alloc),
             len: 0,
         }
+    }
+
+    /// The bits that packed words hold.
+    pub(crate) fn from_words(words: Vec<u64>, len: u64) -> Bits
+        requires packed { IsPacked words.items len }
+        requires few { len ≤ 4611686018427387904 }
+        ensures { result ≡ text_of len words.items }
+    {
+        Bits { words, len }
     }
 
     /// The n bits of bytes from a bit on.

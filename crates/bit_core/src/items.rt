@@ -4,6 +4,9 @@ ghost use Rattle.std.specs.Option.{option_copied};
 use std::alloc::{AllocError, Global};
 use std::marker::Model;
 
+/// A list of bytes.
+pub type Octets = Items<u8>;
+
 /// A list of items, which contracts see as the list. What it is a list of says the alias that it goes by.
 #[derive(Debug, Drop)]
 pub struct Items<T> {
@@ -29,6 +32,13 @@ impl<T> Items<T> {
         Items {
             items: Vec::new(alloc),
         }
+    }
+
+    /// The items that a vector holds.
+    pub fn from_vec(items: Vec<T>) -> Items<T>
+        ensures { result ≡ items.items }
+    {
+        Items { items }
     }
 
     /// The number of items.
@@ -72,11 +82,18 @@ impl<T: Drop> Items<T> {
 }
 
 impl Items<u8> {
+    /// A copy of some bytes. The one error is out of memory.
+    pub fn copy_of(alloc: Global, bytes: &[u8]) -> Result<Items<u8>, AllocError>
+        ensures { IfOk result (λ copied. copied ≡ bytes.now) }
+    {
+        let items = Vec::from_slice(alloc, bytes)?;
+        Ok(Items { items })
+    }
+
     /// A copy. The one error is out of memory.
     pub fn copy(&self, alloc: Global) -> Result<Items<u8>, AllocError>
         ensures { IfOk result (λ copied. copied ≡ self.now) }
     {
-        let items = Vec::from_slice(alloc, &self.items)?;
-        Ok(Items { items })
+        Items::copy_of(alloc, self.as_slice())
     }
 }

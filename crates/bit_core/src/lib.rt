@@ -12,7 +12,6 @@ mod bits;
 mod faults;
 mod fields;
 mod items;
-mod octets;
 mod reader;
 mod slices;
 #[cfg(test)]
@@ -23,7 +22,6 @@ mod writer;
 pub use bits::Bits;
 pub use faults::{ReadFault, Short};
 pub use fields::{flag, put_small, small};
-pub use items::Items;
-pub use octets::Octets;
+pub use items::{Items, Octets};
 pub use reader::BitReader;
 pub use writer::BitWriter;

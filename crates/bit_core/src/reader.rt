@@ -9,7 +9,7 @@ ghost use Rattle.bit_core.specs.Faults.{is_memory};
 
 use crate::bits::Bits;
 use crate::faults::{ReadFault, Short};
-use crate::octets::Octets;
+use crate::items::Octets;
 use crate::slices::{bytes_at, number_at};
 use std::alloc::Global;
 use std::marker::Model;

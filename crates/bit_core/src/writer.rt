@@ -3,7 +3,7 @@ ghost use Rattle.layout.specs.Text.{num, bits_of, pad, value_after};
 ghost use Rattle.bit_core.specs.Words.{zeros};
 
 use crate::bits::Bits;
-use crate::octets::Octets;
+use crate::items::Octets;
 use crate::words::{MOST_BITS, cut_words, in_range, push_from, push_word, push_words, whole_bytes};
 use std::alloc::{AllocError, Global};
 use std::marker::Model;
@@ -141,6 +141,14 @@ impl BitWriter {
             cut_words(&mut self.words, self.len);
         }
         result
+    }
+
+    /// The bits as a list. Nothing is copied.
+    pub fn into_bits(self) -> Bits
+        ensures { result ≡ self }
+    {
+        let BitWriter { words, len } = self;
+        Bits::from_words(words, len)
     }
 
     /// The bytes that the bits spell, with the fewest zeros behind them that fill the last byte, at most 7.

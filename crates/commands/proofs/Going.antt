@@ -10,7 +10,7 @@ use Rattle.latm.specs.declared.mux_config.MuxConfig.{MuxConfig}
 use Rattle.loas.specs.declared.fault.LoasFault.TheVariants as loas
 use Rattle.tool_text.specs.declared.refusal.Refusal.{Refusal}
 use Rattle.tool_text.specs.declared.refusal.Within.{Within}
-use Rattle.tool_text.specs.Refusal.{refusal_text}
+use Rattle.tool_text.specs.RefusalText.{refusal_text}
 use Rattle.tool_text.specs.Faults.{refusal_of_loas, refusal_of_mux}
 use Rattle.au_stream.specs.declared.event.Event.{Event}
 use Rattle.au_stream.specs.declared.fault.StreamFault.{StreamFault}

@@ -3,7 +3,7 @@ use Rattle.std.proofs.Common.{◌≡◌, ℕ, List, ◌++◌, Option, Some, None
 use Rattle.loas.specs.declared.fault.LoasFault.TheVariants as loas
 use Rattle.latm.specs.declared.stream.Stream.{Stream}
 use Rattle.tool_text.specs.declared.refusal.Refusal.{Refusal}
-use Rattle.tool_text.specs.Refusal.{refusal_text}
+use Rattle.tool_text.specs.RefusalText.{refusal_text}
 use Rattle.au_stream.specs.declared.fault.StreamFault.{StreamFault}
 use Rattle.au_stream.specs.declared.fault.StreamFault.TheVariants as streams
 use Rattle.au_stream.specs.Frames.{Frame}

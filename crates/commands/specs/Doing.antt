@@ -5,7 +5,7 @@ use Rattle.std.specs.Io.KnownBytes.{prepend_known, append_known, IsAtEnd}
 use Rattle.core_iface.specs.Answering.{Meaning}
 use Rattle.tool_text.specs.declared.refusal.Refusal.{Refusal}
 use Rattle.tool_text.specs.declared.refusal.Within.{Within}
-use Rattle.tool_text.specs.Refusal.{refusal_text}
+use Rattle.tool_text.specs.RefusalText.{refusal_text}
 use Rattle.tool_text.specs.Faults.{refusal_of_loas, refusal_of_mux}
 use Rattle.au_stream.specs.declared.fault.StreamFault.{StreamFault}
 use Rattle.au_stream.specs.declared.fault.StreamFault.TheVariants as streams

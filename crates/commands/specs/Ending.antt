@@ -5,7 +5,7 @@ use Rattle.std.specs.Prelude.{Some, None}
 use Rattle.std.specs.Io.KnownBytes.{append_known}
 use Rattle.loas.specs.declared.fault.LoasFault.TheVariants as loas
 use Rattle.tool_text.specs.declared.refusal.Refusal.{Refusal}
-use Rattle.tool_text.specs.Refusal.{refusal_text}
+use Rattle.tool_text.specs.RefusalText.{refusal_text}
 use Rattle.tool_text.specs.Faults.{refusal_of_loas, refusal_of_mux}
 use Rattle.au_stream.specs.Frames.{Frame}
 use Rattle.au_stream.specs.Script.{Mark, End, SyncLost, BadElement, Truncated, TooLarge, HasFrames, IsScript, IsOpen}

@@ -2,7 +2,7 @@
 use Rattle.std.specs.Prelude.{◌≡◌, ◌⊎◌, ℕ, false, List, Some, None}
 use Rattle.latm.specs.declared.stream.Stream.{Stream}
 use Rattle.tool_text.specs.declared.refusal.Refusal.{Refusal}
-use Rattle.tool_text.specs.Refusal.{refusal_text}
+use Rattle.tool_text.specs.RefusalText.{refusal_text}
 use Rattle.au_stream.specs.Frames.{Frame}
 use Rattle.au_stream.specs.Script.{Mark, TooLarge, IsScript}
 use Rattle.au_stream.specs.Whole.{IsStream, MayGoOn}

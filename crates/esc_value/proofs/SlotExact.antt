@@ -7,7 +7,7 @@ use Rattle.layout.specs.Text.{num, bits_of}
 use Rattle.layout.specs.Reader.{Reader, left, moved}
 use Rattle.layout.proofs.TextLemmas.{length-num, length-bits_of}
 use Rattle.layout.specs.Layout.{◌>>=◌, at_start, IsProperPrefix}
-use Rattle.layout.specs.Fields.{number}
+use Rattle.layout.specs.Fields.{number_field}
 use Rattle.bit_core.specs.Plain.{bits, short_at}
 use Rattle.layout.specs.Exact.{IsExact}
 use Rattle.layout.proofs.Layouts.{bind_ok, bind_err, done, failed, ok_is, err_is, left_moved, moved_twice, field-open}
@@ -99,7 +99,7 @@ ends_at zero r f lt e = absurd (omega arith)
 ends_at (suc k) r f lt e =
     elim (bind_err ((bits 8).read r) (slot_step (slot_read k)) f e) [
       | inl bad ↦
-          let w = (field-open short_at (number 8) 0 (omega arith)).stops r.at f (left r) ((bits-exact 8).blames r f bad) in
+          let w = (field-open short_at (number_field 8) 0 (omega arith)).stops r.at f (left r) ((bits-exact 8).blames r f bad) in
           front_of_byte (left r) w.0 (let lt : w.0 < 256 = w.1.0 in lt) w.2
       | inr a ↦
           let t = (bits-exact 8).takes r a.0.1 a.0.0 a.1 in

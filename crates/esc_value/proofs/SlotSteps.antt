@@ -4,7 +4,7 @@ use Rattle.std.proofs.lemmas.List.{length-append}
 use Rattle.bit_core.specs.declared.faults.Short.{Short}
 use Rattle.layout.specs.Text.{num}
 use Rattle.layout.specs.Reader.{Reader, left, moved}
-use Rattle.layout.specs.Fields.{number}
+use Rattle.layout.specs.Fields.{number_field}
 use Rattle.layout.specs.Reading.{Gives}
 use Rattle.layout.proofs.TextLemmas.{length-num}
 use Rattle.layout.proofs.Layouts.{moved_twice, field-open}
@@ -61,7 +61,7 @@ ends old mid new sum b s read other =
 -- too few bits for a byte: the fault stands where the length begins
 pub stops : (old mid new : Reader) (sum : ℕ) (f g : Short) → SoFar old mid sum → Gives (bits 8) mid new (Err f) → g.at ≡ old.at → Gives slot old new (Err g)
 stops old mid new sum f g s read is =
-    let w = (field-open short_at (number 8) 0 (omega arith)).stops mid.at f (left mid) ((bits-exact 8).blames mid f read.0) in
+    let w = (field-open short_at (number_field 8) 0 (omega arith)).stops mid.at f (left mid) ((bits-exact 8).blames mid f read.0) in
     let p = front_of_byte (left mid) w.0 (let lt : w.0 < 256 = w.1.0 in lt) w.2 in
     let whole : slot_text (sum + p.0) ≡ left old ++ p.1.0 ∷ p.1.1 = s.spelled p.0 ∙ ap (λ (x : List Bool). s.front ++ x) p.1.2 ∙ sym (append_assoc s.front (left mid) (p.1.0 ∷ p.1.1)) ∙ ap (λ (x : List Bool). x ++ p.1.0 ∷ p.1.1) (sym s.text) in
     let there : g ≡ short_at old.at = ap short_at is in (

@@ -3,7 +3,7 @@
 use Rattle.std.specs.Prelude.{◌≡◌, ℕ, ◌+◌, ◌-◌, ◌^◌, ◌≤◌, Bool, true, List, ◌++◌, replicate, Option, Some, None, nat_lt, ◌==◌, if◌then◌else◌}
 use Rattle.bit_core.specs.declared.faults.Short.{Short}
 use Rattle.layout.specs.Text.{num}
-use Rattle.layout.specs.Layout.{Layout, both, shaped, where_set, whole, IsProperPrefix}
+use Rattle.layout.specs.Layout.{Layout, both, shaped, wrapped, where_set, whole, IsProperPrefix}
 use Rattle.bit_core.specs.Plain.{bits, short_at}
 
 -- the largest number that can be spelled
@@ -55,3 +55,7 @@ escaped a b c = record {
   Faults = λ at f t. (f ≡ short_at at) × ((v : ℕ) × (v ≤ largest a b c) × IsProperPrefix t (escaped_text a b c v));
   read = let L = whole short_at (summed a b c) in L.read;
 }
+
+-- the same of a format with faults of its own
+abbrev pub escaped_value : {F : Type 0} → (Short → F) → ℕ → ℕ → ℕ → Layout ℕ F
+escaped_value wrap a b c = wrapped wrap (escaped a b c)

@@ -6,12 +6,13 @@ use Rattle.std.specs.Prelude.{◌⊎◌}
 use Rattle.std.proofs.lemmas.List.{append-nil, replicate_more, replicate-append-replicate}
 use Rattle.layout.specs.Text.{num}
 use Rattle.layout.specs.Layout.{where_set, whole}
-use Rattle.layout.specs.Fields.{number}
+use Rattle.layout.specs.Fields.{number_field}
 use Rattle.layout.specs.Exact.{IsExact, IsOpen}
-use Rattle.layout.proofs.Layouts.{both-exact, shaped-exact, where_set-exact, whole-exact, both-open, shaped-open, where_set-open, field-open, same-exact}
+use Rattle.layout.proofs.Layouts.{both-exact, shaped-exact, wrapped-exact, where_set-exact, whole-exact, both-open, shaped-open, where_set-open, field-open, same-exact}
+use Rattle.bit_core.specs.declared.faults.Short.{Short}
 use Rattle.bit_core.specs.Plain.{bits, short_at}
 use Rattle.bit_core.proofs.PlainFacts.{bits-exact}
-use Rattle.esc_value.specs.Escaped.{largest, ones, escaped_text, parts, added, second, third, fields, summed, escaped}
+use Rattle.esc_value.specs.Escaped.{largest, ones, escaped_text, parts, added, second, third, fields, summed, escaped, escaped_value}
 
 pub num_ones : (n : ℕ) → num n (2 ^ n - 1) ≡ replicate n true
 unfolding num
@@ -144,7 +145,7 @@ pub summed-exact : (a b c : ℕ) → IsExact (summed a b c)
 summed-exact a b c = shaped-exact _ _ _ (both-exact _ _ (bits-exact a) (λ x. where_set-exact _ _ (both-exact _ _ (bits-exact b) (λ y. where_set-exact _ _ (bits-exact c))))) (back a b c) (λ v h. there a b v)
 
 pub bits-open : (n : ℕ) → IsOpen (bits n)
-bits-open n = field-open short_at (number n) 0 (pow_pos n)
+bits-open n = field-open short_at (number_field n) 0 (pow_pos n)
 
 pub summed-open : (a b c : ℕ) → IsOpen (summed a b c)
 summed-open a b c = shaped-open _ _ _ (both-open _ _ (bits-open a) (λ x. where_set-open _ _ (both-open _ _ (bits-open b) (λ y. where_set-open _ _ (bits-open c))))) (back a b c)
@@ -161,3 +162,6 @@ escaped_exact a b c = same-exact (whole short_at (summed a b c)) (escaped a b c)
     (λ r. refl)
     (λ at f t bad. let m = fits_from a b c bad.1.0 bad.1.1 in (bad.0, (bad.1.0, m.0, (bad.1.2.0, bad.1.2.1, sym m.1 ∙ bad.1.2.2))))
     (λ at f t bad. let m = from a b c bad.1.0 bad.1.1 in (bad.0, (bad.1.0, m.0, (bad.1.2.0, bad.1.2.1, m.1 ∙ bad.1.2.2))))
+
+pub escaped_value-exact : {F : Type 0} (wrap : Short → F) (a b c : ℕ) → IsExact (escaped_value wrap a b c)
+escaped_value-exact wrap a b c = wrapped-exact wrap _ (escaped_exact a b c)

@@ -3,7 +3,7 @@ use Rattle.std.proofs.Common.{◌≡◌, ℕ, zero, suc, ◌+◌, ◌-◌, ◌*�
 use Rattle.std.proofs.lemmas.Nat.{pow_pos}
 use Rattle.layout.specs.Text.{num}
 use Rattle.layout.specs.Layout.{Layout, both, shaped, whole}
-use Rattle.layout.specs.Fields.{number}
+use Rattle.layout.specs.Fields.{number_field}
 use Rattle.layout.specs.Exact.{IsExact, IsOpen}
 use Rattle.layout.proofs.Layouts.{both-exact, shaped-exact, whole-exact, both-open, shaped-open, field-open, same-exact}
 use Rattle.bit_core.specs.declared.faults.Short.{Short}
@@ -30,7 +30,7 @@ pairs-exact : IsExact pairs
 pairs-exact = both-exact _ _ (bits-exact 2) (λ more. bits-exact (8 * (more + 1)))
 
 bits-open : (n : ℕ) → IsOpen (bits n)
-bits-open n = field-open short_at (number n) 0 (pow_pos n)
+bits-open n = field-open short_at (number_field n) 0 (pow_pos n)
 
 pairs-open : IsOpen pairs
 pairs-open = both-open _ _ (bits-open 2) (λ more. bits-open (8 * (more + 1)))

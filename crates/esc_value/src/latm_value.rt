@@ -60,7 +60,7 @@ impl LatmValue {
     }
 }
 
-/// Puts the fields. A refusal may stand behind the first of them.
+/// Puts the fields. On error the first of them may already be written.
 fn put_fields(value: LatmValue, writer: &mut BitWriter) -> Result<(), AllocError>
     requires { IsWellFormed value }
     ensures ok { OnOk result (writer.new ≡ writer.old ++ latm_text value) }
@@ -70,7 +70,7 @@ fn put_fields(value: LatmValue, writer: &mut BitWriter) -> Result<(), AllocError
     writer.put(value.value, 8 * u32::from(value.bytes))
 }
 
-/// Reads the fields. A refusal may stand behind the first of them.
+/// Reads the fields. On error the first of them may already be consumed.
 fn read_fields(reader: &mut BitReader) -> Result<LatmValue, Short>
     ensures { Gives latm_fields reader.old reader.new result }
 {

@@ -18,5 +18,4 @@ mod tests;
 pub use escaped::Escaped;
 pub use fault::EscFault;
 pub use latm_value::LatmValue;
-pub use laws::slot_length_has_one_spelling as one_spelling;
 pub use slot_length::SlotLength;

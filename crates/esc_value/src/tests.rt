@@ -1,6 +1,6 @@
 ghost use Rattle.std.specs.Prelude.{◌≤◌};
 
-use crate::{EscFault, Escaped, LatmValue, SlotLength, laws, one_spelling};
+use crate::{EscFault, Escaped, LatmValue, SlotLength, laws};
 use bit_core::{BitReader, BitWriter, Short};
 use std::process::Abort;
 use std::test::Fail;
@@ -120,7 +120,7 @@ fn latm_values_are_read(rt: HostRuntime) {
 fn the_laws_are_called() {
     laws::escaped_has_one_spelling::<4, 8, 16>();
     laws::latm_value_has_one_spelling();
-    one_spelling();
+    laws::slot_length_has_one_spelling();
 }
 
 #[test]

@@ -5,8 +5,9 @@ use Rattle.layout.specs.Layout.{FitsOption}
 use Rattle.layout.proofs.TextLemmas.{length-bits_of, bits_of-append}
 use Rattle.asc.specs.declared.asc_config.Asc.{Asc}
 use Rattle.asc.specs.Asc.{IsWellFormed as IsAscWellFormed}
+use Rattle.loas.specs.Framing.{header}
 use Rattle.latm.specs.MuxConfig.{IsWellFormed}
-use Rattle.latm.specs.Written.{header, Frames, config_of}
+use Rattle.latm.specs.Written.{Frames, config_of}
 
 pub short_body : (text : List Bool) (body slice : List ℕ) → slice ≡ body → bits_of body ≡ text → length text ≤ 65528 → length slice ≤ 8191
 short_body text body slice is spelled le = omega (arith, le, ap (λ (t : List Bool). length t) spelled, length-bits_of body, ap (λ (xs : List ℕ). length xs) is)

@@ -5,7 +5,7 @@ use Rattle.usac_cfg.specs.declared.usac_config.UsacConfig.{UsacConfig}
 use Rattle.latm.specs.declared.mux_config.MuxConfig.{MuxConfig}
 use Rattle.latm.specs.declared.mux_element.MuxElement.{MuxElement}
 use Rattle.latm.specs.MuxElement.{then_in_force}
-use Rattle.latm.specs.Stream.{frames_under, frames_from}
+use Rattle.latm.specs.Stream.{slots_under, slots_from}
 
 get_left : {X : Type 0} (xs ys : List X) (i : ℕ) → i < length xs → slice_get (xs ++ ys) i ≡ slice_get xs i
 get_left [] ys i lt = absurd (omega arith)
@@ -19,31 +19,31 @@ get_right (x ∷ xs) ys i (suc n) e = get_right xs ys i n (omega (arith, e))
 
 -- the frames from an element on: its own, and those behind it
 from_element : (before : Option MuxConfig) (elements : List MuxElement) (i : ℕ) (e : MuxElement) → i < length elements → e ≡ get_or elements i e
-    → frames_from before (drop i elements) ≡ frames_under (then_in_force before e.config) e.slots ++ frames_from (then_in_force before e.config) (drop (suc i) elements)
+    → slots_from before (drop i elements) ≡ slots_under (then_in_force before e.config) e.slots ++ slots_from (then_in_force before e.config) (drop (suc i) elements)
 from_element before [] i e lt is = absurd (omega arith)
-from_element before (x ∷ elements) zero e lt is = ap (λ (y : MuxElement). frames_under (then_in_force before y.config) y.slots ++ frames_from (then_in_force before y.config) elements) (sym is)
+from_element before (x ∷ elements) zero e lt is = ap (λ (y : MuxElement). slots_under (then_in_force before y.config) y.slots ++ slots_from (then_in_force before y.config) elements) (sym is)
 from_element before (x ∷ elements) (suc i) e lt is = from_element before elements i e (omega arith) is
 
 -- its own frames, by what the code has of them
-own_frames : (before own : Option MuxConfig) (e : MuxElement) (slots : List (List ℕ)) → own ≡ then_in_force before e.config → slots ≡ e.slots → frames_under own slots ≡ frames_under (then_in_force before e.config) e.slots
-own_frames before own e slots force of_e = ap (λ (m : Option MuxConfig). frames_under m slots) force ∙ ap (λ (xs : List (List ℕ)). frames_under (then_in_force before e.config) xs) of_e
+own_frames : (before own : Option MuxConfig) (e : MuxElement) (slots : List (List ℕ)) → own ≡ then_in_force before e.config → slots ≡ e.slots → slots_under own slots ≡ slots_under (then_in_force before e.config) e.slots
+own_frames before own e slots force of_e = ap (λ (m : Option MuxConfig). slots_under m slots) force ∙ ap (λ (xs : List (List ℕ)). slots_under (then_in_force before e.config) xs) of_e
 
 next : (before own : Option MuxConfig) (elements : List MuxElement) (i : ℕ) (e : MuxElement) (slots : List (List ℕ)) → i < length elements → e ≡ get_or elements i e → own ≡ then_in_force before e.config → slots ≡ e.slots
-    → frames_from before (drop i elements) ≡ frames_under own slots ++ frames_from own (drop (suc i) elements)
+    → slots_from before (drop i elements) ≡ slots_under own slots ++ slots_from own (drop (suc i) elements)
 next before own elements i e slots lt is force of_e =
     from_element before elements i e lt is
-    ∙ ap (λ (fs : List (UsacConfig × List ℕ)). fs ++ frames_from (then_in_force before e.config) (drop (suc i) elements)) (sym (own_frames before own e slots force of_e))
-    ∙ ap (λ (m : Option MuxConfig). frames_under own slots ++ frames_from m (drop (suc i) elements)) (sym force)
+    ∙ ap (λ (fs : List (UsacConfig × List ℕ)). fs ++ slots_from (then_in_force before e.config) (drop (suc i) elements)) (sym (own_frames before own e slots force of_e))
+    ∙ ap (λ (m : Option MuxConfig). slots_under own slots ++ slots_from m (drop (suc i) elements)) (sym force)
 
 -- the frame stands in this element
 pub here : (before own : Option MuxConfig) (elements : List MuxElement) (i : ℕ) (e : MuxElement) (slots : List (List ℕ)) (n count : ℕ) → i < length elements → e ≡ get_or elements i e → own ≡ then_in_force before e.config → slots ≡ e.slots
-    → count ≡ length (frames_under own slots) → n < count → slice_get (frames_under own slots) n ≡ slice_get (frames_from before (drop i elements)) n
+    → count ≡ length (slots_under own slots) → n < count → slice_get (slots_under own slots) n ≡ slice_get (slots_from before (drop i elements)) n
 here before own elements i e slots n count lt is force of_e counted below =
-    sym (ap (λ (fs : List (UsacConfig × List ℕ)). slice_get fs n) (next before own elements i e slots lt is force of_e) ∙ get_left (frames_under own slots) (frames_from own (drop (suc i) elements)) n (omega (arith, counted, below)))
+    sym (ap (λ (fs : List (UsacConfig × List ℕ)). slice_get fs n) (next before own elements i e slots lt is force of_e) ∙ get_left (slots_under own slots) (slots_from own (drop (suc i) elements)) n (omega (arith, counted, below)))
 
 -- it stands behind this element
 pub behind : (before own : Option MuxConfig) (elements : List MuxElement) (i j : ℕ) (e : MuxElement) (slots : List (List ℕ)) (n count : ℕ) → i < length elements → e ≡ get_or elements i e → own ≡ then_in_force before e.config → slots ≡ e.slots
-    → count ≡ length (frames_under own slots) → count ≤ n → j ≡ suc i → slice_get (frames_from own (drop j elements)) (n - count) ≡ slice_get (frames_from before (drop i elements)) n
+    → count ≡ length (slots_under own slots) → count ≤ n → j ≡ suc i → slice_get (slots_from own (drop j elements)) (n - count) ≡ slice_get (slots_from before (drop i elements)) n
 behind before own elements i j e slots n count lt is force of_e counted above after =
-    ap (λ (k : ℕ). slice_get (frames_from own (drop k elements)) (n - count)) after
-    ∙ sym (ap (λ (fs : List (UsacConfig × List ℕ)). slice_get fs n) (next before own elements i e slots lt is force of_e) ∙ get_right (frames_under own slots) (frames_from own (drop (suc i) elements)) (n - count) n (omega (arith, counted, above)))
+    ap (λ (k : ℕ). slice_get (slots_from own (drop k elements)) (n - count)) after
+    ∙ sym (ap (λ (fs : List (UsacConfig × List ℕ)). slice_get fs n) (next before own elements i e slots lt is force of_e) ∙ get_right (slots_under own slots) (slots_from own (drop (suc i) elements)) (n - count) n (omega (arith, counted, above)))

@@ -1,9 +1,9 @@
 -- StreamMuxConfig of one program of one layer, field by field (ISO/IEC 14496-3).
 use Rattle.std.specs.Prelude.{◌≡◌, ℕ, ◌^◌, ◌<◌, ◌≤◌, Bool, true, false, [], length, Option, Some, None, is_some, ◌==◌, nat_lt, if◌then◌else◌}
-use Rattle.layout.specs.Layout.{Layout, both, shaped, wrapped, checked, constant, where_set, behind, FitsOption}
+use Rattle.layout.specs.Layout.{Layout, both, shaped, with_fits, wrapped, checked, constant, where_set, behind, FitsOption}
 use Rattle.layout.specs.Tagged.{as_variant}
 use Rattle.layout.specs.ToEnd.{inside}
-use Rattle.bit_core.specs.Plain.{bits, bit}
+use Rattle.bit_core.specs.Plain.{number, flag}
 use Rattle.esc_value.specs.declared.latm_value.LatmValue.{LatmValue}
 use Rattle.esc_value.specs.LatmValue.{IsWellFormed as IsLatmWellFormed, latm_value}
 use Rattle.asc.specs.declared.asc_config.Asc.{Asc}
@@ -42,13 +42,6 @@ pub record IsWellFormed (v : MuxConfig) : Type 0 where
   pub other : FitsOption (IsOther (v.version == 1)) v.other
   pub crc : FitsOption (λ c. c < 256) v.crc
 
--- a number of n bits, and one bit
-abbrev pub number : ℕ → Layout ℕ MuxFault
-number n = wrapped from_short (bits n)
-
-abbrev pub flag : Layout Bool MuxFault
-flag = wrapped from_short bit
-
 abbrev pub latm : Layout LatmValue MuxFault
 latm = wrapped from_short latm_value
 
@@ -57,7 +50,7 @@ out_of name at = faults.OutOfProfile at name
 
 -- a number of n bits of which the profile takes one value alone
 abbrev pub fixed : MuxField → ℕ → ℕ → Layout (Unit {0}) MuxFault
-fixed name n value = constant (out_of name) value (number n)
+fixed name n value = constant (out_of name) value (number from_short n)
 
 -- audioMuxVersionA and taraBufferFullness, for version 1
 abbrev pub tara_fields : Layout LatmValue MuxFault
@@ -102,13 +95,13 @@ other_length false = as_variant (λ (x : ℕ × ℕ). Pairs x.0 x.1) pairs_of pa
 
 -- audioMuxVersion, audioMuxVersionA, taraBufferFullness, allStreamsSameTimeFraming, numSubFrames, numProgram, numLayer
 abbrev pub head : Layout (ℕ × (Option LatmValue × ℕ)) MuxFault
-head = both (number 1) (λ version. both (of_version (version == 1)) (λ _.
-    behind (fixed names.AllStreamsSameTimeFraming 1 1) (shaped (λ n. (n, (tt, tt))) (λ x. x.0) (both (number 6) (λ _. both (fixed names.NumProgram 4 0) (λ _. fixed names.NumLayer 3 0))))))
+head = both (number from_short 1) (λ version. both (of_version (version == 1)) (λ _.
+    behind (fixed names.AllStreamsSameTimeFraming 1 1) (shaped (λ n. (n, (tt, tt))) (λ x. x.0) (both (number from_short 6) (λ _. both (fixed names.NumProgram 4 0) (λ _. fixed names.NumLayer 3 0))))))
 
 -- otherDataPresent and otherDataLenBits, crcCheckPresent and crcCheckSum
 abbrev pub last : Bool → Layout (Option OtherLength × Option ℕ) MuxFault
 last one = shaped (λ (other, crc). (is_some other, (other, (is_some crc, crc)))) (λ (_, (other, (_, crc))). (other, crc))
-    (both flag (λ there. both (where_set there (other_length one)) (λ _. both flag (λ there. where_set there (number 8)))))
+    (both (flag from_short) (λ there. both (where_set there (other_length one)) (λ _. both (flag from_short) (λ there. where_set there (number from_short 8)))))
 
 -- the head, the AudioSpecificConfig, frameLengthType, latmBufferFullness, other data and the sum
 abbrev pub fields : Layout MuxConfig MuxFault
@@ -124,13 +117,8 @@ fields = shaped
       other = other;
       crc = crc;
     })
-    (both head (λ h. both (configuration (h.0 == 1)) (λ _. behind (fixed names.FrameLengthType 3 0) (both (number 8) (λ _. last (h.0 == 1))))))
+    (both head (λ h. both (configuration (h.0 == 1)) (λ _. behind (fixed names.FrameLengthType 3 0) (both (number from_short 8) (λ _. last (h.0 == 1))))))
 
 -- the well formed ones, in these fields
 abbrev pub mux_config : Layout MuxConfig MuxFault
-mux_config = record {
-  Fits = IsWellFormed;
-  spelling = fields.spelling;
-  Faults = fields.Faults;
-  read = fields.read;
-}
+mux_config = with_fits IsWellFormed fields

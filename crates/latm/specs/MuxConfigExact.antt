@@ -7,7 +7,7 @@ use Rattle.layout.specs.Exact.{IsExact, IsExactToEnd}
 use Rattle.layout.proofs.Layouts.{both-exact, shaped-exact, wrapped-exact, checked-exact, where_set-exact, constant-exact, behind-exact, same-exact}
 use Rattle.layout.proofs.TaggedExact.{as_variant-exact}
 use Rattle.layout.proofs.ToEnd.{inside-exact}
-use Rattle.bit_core.proofs.PlainFacts.{bits-exact, bit-exact}
+use Rattle.bit_core.proofs.PlainFacts.{number-exact, flag-exact}
 use Rattle.esc_value.specs.declared.latm_value.LatmValue.{LatmValue}
 use Rattle.esc_value.specs.LatmValue.{IsWellFormed as IsLatmWellFormed}
 use Rattle.esc_value.specs.LatmExact.{latm_value_exact}
@@ -23,7 +23,7 @@ use Rattle.latm.specs.declared.other_length.OtherLength.TheVariants.{Pairs, Valu
 use Rattle.latm.specs.declared.pairs.Run.{Run}
 use Rattle.latm.specs.Faults.{from_short, from_asc}
 use Rattle.latm.specs.PairsExact.{run_exact, run_of}
-use Rattle.latm.specs.MuxConfig.{IsOther, IsCounted, IsWellFormed, number, flag, latm, out_of, fixed, of_version, short_at, asc_of, configuration, other_over, pairs, pairs_of, value_of, other_length, head, last, fields, mux_config}
+use Rattle.latm.specs.MuxConfig.{IsOther, IsCounted, IsWellFormed, latm, out_of, fixed, of_version, short_at, asc_of, configuration, other_over, pairs, pairs_of, value_of, other_length, head, last, fields, mux_config}
 
 mapped_ok : {A F G : Type 0} (wrap : F → G) (r : Result A F) (x : A) → error_mapped wrap r ≡ Ok x → r ≡ Ok x
 mapped_ok {A} wrap (Ok y) x e = let same : y ≡ x = cc in ap (λ (z : A). Ok z) same
@@ -42,17 +42,11 @@ wrapped-to_end {A} {F} {G} wrap H h = record {
   only = λ r g bad. ap (error_mapped wrap) (h.only r bad.0 bad.1) ∙ ap (λ (d : G). Err d) (sym bad.2);
 }
 
-number-exact : (n : ℕ) → IsExact (number n)
-number-exact n = wrapped-exact from_short _ (bits-exact n)
-
-flag-exact : IsExact flag
-flag-exact = wrapped-exact from_short _ bit-exact
-
 latm-exact : IsExact latm
 latm-exact = wrapped-exact from_short _ latm_value_exact
 
 fixed-exact : (name : MuxField) (n value : ℕ) → IsExact (fixed name n value)
-fixed-exact name n value = constant-exact (out_of name) value _ (number-exact n)
+fixed-exact name n value = constant-exact (out_of name) value _ (number-exact from_short n)
 
 of_version-exact : (one : Bool) → IsExact (of_version one)
 of_version-exact one = where_set-exact one _ (behind-exact _ _ (fixed-exact names.AudioMuxVersionA 1 0) latm-exact)
@@ -99,16 +93,16 @@ other_length-exact true = as_variant-exact _ value_of _ (checked-exact (λ (v : 
 other_length-exact false = as_variant-exact _ pairs_of _ pairs-exact (λ a. refl) pairs_back
 
 head-exact : IsExact head
-head-exact = both-exact _ _ (number-exact 1) (λ version. both-exact _ _ (of_version-exact (version == 1)) (λ _.
-    behind-exact _ _ (fixed-exact names.AllStreamsSameTimeFraming 1 1) (shaped-exact _ _ _ (both-exact _ _ (number-exact 6) (λ _. both-exact _ _ (fixed-exact names.NumProgram 4 0) (λ _. fixed-exact names.NumLayer 3 0))) (λ a h. refl) (λ b h. refl))))
+head-exact = both-exact _ _ (number-exact from_short 1) (λ version. both-exact _ _ (of_version-exact (version == 1)) (λ _.
+    behind-exact _ _ (fixed-exact names.AllStreamsSameTimeFraming 1 1) (shaped-exact _ _ _ (both-exact _ _ (number-exact from_short 6) (λ _. both-exact _ _ (fixed-exact names.NumProgram 4 0) (λ _. fixed-exact names.NumLayer 3 0))) (λ a h. refl) (λ b h. refl))))
 
 last-exact : (one : Bool) → IsExact (last one)
 last-exact one = shaped-exact _ _ _
-    (both-exact _ _ flag-exact (λ there. both-exact _ _ (where_set-exact there _ (other_length-exact one)) (λ _. both-exact _ _ flag-exact (λ there. where_set-exact there _ (number-exact 8)))))
+    (both-exact _ _ (flag-exact from_short) (λ there. both-exact _ _ (where_set-exact there _ (other_length-exact one)) (λ _. both-exact _ _ (flag-exact from_short) (λ there. where_set-exact there _ (number-exact from_short 8)))))
     (λ a h. rw (h.1.0.0, h.1.1.1.0) refl) (λ b h. refl)
 
 fields-exact : IsExact fields
-fields-exact = shaped-exact _ _ _ (both-exact _ _ head-exact (λ h. both-exact _ _ (configuration-exact (h.0 == 1)) (λ _. behind-exact _ _ (fixed-exact names.FrameLengthType 3 0) (both-exact _ _ (number-exact 8) (λ _. last-exact (h.0 == 1))))))
+fields-exact = shaped-exact _ _ _ (both-exact _ _ head-exact (λ h. both-exact _ _ (configuration-exact (h.0 == 1)) (λ _. behind-exact _ _ (fixed-exact names.FrameLengthType 3 0) (both-exact _ _ (number-exact from_short 8) (λ _. last-exact (h.0 == 1))))))
     (λ a h. refl) (λ b h. refl)
 
 tara_fits : (o : Option LatmValue) → FitsOption IsLatmWellFormed o → FitsOption (behind (fixed names.AudioMuxVersionA 1 0) latm).Fits o
@@ -119,11 +113,11 @@ tara_well : (o : Option LatmValue) → FitsOption (behind (fixed names.AudioMuxV
 tara_well None h = tt
 tara_well (Some v) h = h.1
 
-crc_fits : (o : Option ℕ) → FitsOption (λ c. c < 256) o → FitsOption (number 8).Fits o
+crc_fits : (o : Option ℕ) → FitsOption (λ c. c < 256) o → FitsOption (number from_short 8).Fits o
 crc_fits None h = tt
 crc_fits (Some v) h = (h, refl)
 
-crc_well : (o : Option ℕ) → FitsOption (number 8).Fits o → FitsOption (λ c. c < 256) o
+crc_well : (o : Option ℕ) → FitsOption (number from_short 8).Fits o → FitsOption (λ c. c < 256) o
 crc_well None h = tt
 crc_well (Some v) h = h.0
 

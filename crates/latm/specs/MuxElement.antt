@@ -5,7 +5,7 @@ use Rattle.layout.specs.Laws.{SpellsOnce, IsDecidedWhole}
 use Rattle.layout.specs.Times.{times}
 use Rattle.layout.specs.ToEnd.{rest}
 use Rattle.bit_core.specs.declared.faults.ReadFault.TheVariants as reads
-use Rattle.bit_core.specs.Plain.{octets, bit_run}
+use Rattle.bit_core.specs.Plain.{flag, octets, bit_run}
 use Rattle.esc_value.specs.SlotLength.{slot}
 use Rattle.latm.specs.declared.fault.MuxFault.{MuxFault}
 use Rattle.latm.specs.declared.fault.MuxFault.TheVariants as faults
@@ -14,7 +14,7 @@ use Rattle.latm.specs.declared.mux_element.MuxElement.{MuxElement}
 use Rattle.latm.specs.declared.other_length.OtherLength.{OtherLength}
 use Rattle.latm.specs.declared.other_length.OtherLength.TheVariants.{Pairs, Value}
 use Rattle.latm.specs.Faults.{from_short, from_read}
-use Rattle.latm.specs.MuxConfig.{flag, mux_config}
+use Rattle.latm.specs.MuxConfig.{mux_config}
 
 -- the configuration that is in force behind an element's own, where it has one
 abbrev pub then_in_force : Option MuxConfig → Option MuxConfig → Option MuxConfig
@@ -44,7 +44,7 @@ abbrev pub same_refused : Bool → Bool → Option (ℕ → MuxFault)
 same_refused in_force same = if in_force || not same then None else Some no_config
 
 abbrev pub same : Bool → Layout Bool MuxFault
-same in_force = checked (same_refused in_force) flag
+same in_force = checked (same_refused in_force) (flag from_short)
 
 -- useSameStreamMux, and StreamMuxConfig where it is 0
 abbrev pub opening : Bool → Layout (Option MuxConfig) MuxFault

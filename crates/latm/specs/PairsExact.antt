@@ -7,7 +7,7 @@ use Rattle.bit_core.specs.declared.faults.Short.{Short}
 use Rattle.layout.specs.Text.{num}
 use Rattle.layout.specs.Reader.{Reader, left, moved}
 use Rattle.layout.specs.Layout.{◌>>=◌, at_start, IsProperPrefix}
-use Rattle.layout.specs.Fields.{number, flag}
+use Rattle.layout.specs.Fields.{number_field, flag_field}
 use Rattle.layout.specs.Exact.{IsExact, IsOpen}
 use Rattle.layout.proofs.Layouts.{bind_ok, bind_err, done, failed, ok_is, err_is, left_moved, moved_twice, both-exact, both-open, field-open}
 use Rattle.bit_core.specs.Plain.{bits, short_at}
@@ -19,7 +19,7 @@ pub pair-exact : IsExact pair
 pair-exact = both-exact _ _ bit-exact (λ _. bits-exact 8)
 
 pub pair-open : IsOpen pair
-pair-open = both-open _ _ (field-open short_at flag true tt) (λ _. field-open short_at (number 8) 0 (omega arith))
+pair-open = both-open _ _ (field-open short_at flag_field true tt) (λ _. field-open short_at (number_field 8) 0 (omega arith))
 
 abbrev pub run_of : ℕ → ℕ → Bool → Run
 run_of count bits more = record { count = count; bits = bits; more = more }

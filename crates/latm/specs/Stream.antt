@@ -7,17 +7,17 @@ use Rattle.latm.specs.declared.stream.Stream.{Stream}
 use Rattle.latm.specs.MuxElement.{element, then_in_force}
 
 -- the frames of slots where a configuration is in force, or nothing
-abbrev pub frames_under : Option MuxConfig → List (List ℕ) → List (UsacConfig × List ℕ)
-frames_under None slots = []
-frames_under (Some m) slots = map (λ au. (m.asc.usac, au)) slots
+abbrev pub slots_under : Option MuxConfig → List (List ℕ) → List (UsacConfig × List ℕ)
+slots_under None slots = []
+slots_under (Some m) slots = map (λ au. (m.asc.usac, au)) slots
 
 -- the frames of elements behind what is in force
-abbrev pub frames_from : Option MuxConfig → List MuxElement → List (UsacConfig × List ℕ)
-frames_from before [] = []
-frames_from before (e ∷ es) = frames_under (then_in_force before e.config) e.slots ++ frames_from (then_in_force before e.config) es
+abbrev pub slots_from : Option MuxConfig → List MuxElement → List (UsacConfig × List ℕ)
+slots_from before [] = []
+slots_from before (e ∷ es) = slots_under (then_in_force before e.config) e.slots ++ slots_from (then_in_force before e.config) es
 
 abbrev pub frames_of : Stream → List (UsacConfig × List ℕ)
-frames_of s = frames_from None s.elements
+frames_of s = slots_from None s.elements
 
 -- each element is one under the configuration that those before it leave in force
 abbrev pub AreElements : Option MuxConfig → List MuxElement → Type 0

@@ -2,6 +2,7 @@
 use Rattle.std.specs.Prelude.{◌≡◌, ℕ, ◌+◌, ◌/◌, ◌%◌, ◌<◌, ◌≤◌, Bool, true, false, List, [], ◌∷◌, ◌++◌, length, Option, Some, None, Result, IfOk, IfErr}
 use Rattle.layout.specs.Text.{bits_of, pad}
 use Rattle.asc.specs.declared.asc_config.Asc.{Asc}
+use Rattle.loas.specs.Framing.{header}
 use Rattle.latm.specs.declared.fault.WriteFault.{WriteFault}
 use Rattle.latm.specs.declared.fault.WriteFault.TheVariants as faults
 use Rattle.latm.specs.declared.mux_config.MuxConfig.{MuxConfig}
@@ -21,10 +22,6 @@ element_text = let L = element None in L.spelling
 pub record Writes (text : List Bool) (result : Result (List ℕ) WriteFault) : Type 0 where
   pub ok : IfOk result (λ bytes. (bits_of bytes ≡ text) × (length text ≤ 65528))
   pub err : IfErr result (λ f. is_memory f ≡ false → 65528 < length text)
-
--- the syncword, the length of the element in bytes, and the element
-abbrev pub header : ℕ → List ℕ
-header n = 86 ∷ (224 + n / 256) ∷ (n % 256) ∷ []
 
 -- The same behind the header of a LOAS frame, which counts the bytes of the element.
 pub record Frames (text : List Bool) (result : Result (List ℕ) WriteFault) : Type 0 where

@@ -4,7 +4,7 @@ ghost use Rattle.layout.specs.Layout.{FitsOption};
 ghost use Rattle.layout.specs.Text.{bits_of, pad};
 ghost use Rattle.asc.specs.Asc.{IsWellFormed as IsAscWellFormed};
 ghost use Rattle.latm.specs.MuxConfig.{IsWellFormed};
-ghost use Rattle.latm.specs.Written.{element_text, canonical_config, config_of, canonical_text, header, Writes, Frames};
+ghost use Rattle.latm.specs.Written.{element_text, canonical_config, config_of, canonical_text, Writes, Frames};
 
 use crate::element_writing::{write_fields, write_single};
 use crate::fault::WriteFault;
@@ -12,6 +12,7 @@ use crate::mux_config::MuxConfig;
 use crate::mux_element::MuxElement;
 use asc::Asc;
 use bit_core::{BitWriter, Bits, Octets};
+use loas::with_header;
 use std::alloc::{AllocError, Global};
 
 /// The bytes of an element, with zero bits that fill the last of them, where there are at most 8191.
@@ -37,20 +38,6 @@ pub fn write_element(alloc: Global, element: &MuxElement) -> Result<Octets, Writ
     let mut writer = BitWriter::new(alloc);
     write_fields(element, &mut writer)?;
     finished(writer)
-}
-
-/// A LOAS frame of these bytes.
-fn with_header(alloc: Global, body: &[u8]) -> Result<Octets, AllocError>
-    requires { length body.now ≤ 8191 }
-    ensures { IfOk result (λ bytes. bytes ≡ header (length body.now) ++ body.now) }
-{
-    let length = body.len();
-    let mut bytes = Vec::with_capacity(alloc, 3 + length)?;
-    bytes.push(0x56)?;
-    bytes.push((0xE0 + length / 256) as u8)?;
-    bytes.push((length % 256) as u8)?;
-    bytes.extend_from_slice(body)?;
-    Ok(Octets::from_vec(bytes))
 }
 
 /// Writes the LOAS frame of an element: three bytes of header, and what `write_element` writes, under the same conditions.

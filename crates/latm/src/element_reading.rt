@@ -1,10 +1,4 @@
-//   useSameStreamMux       1   1 only where a configuration is in force
-//   StreamMuxConfig            where that is 0
-//   for each of numSubFrames + 1 slots:
-//     MuxSlotLengthBytes
-//     the slot                 so many bytes
-//   other data                 as many bits as the configuration says
-//   the tail                   all bits to the end
+// The fields of an element, read in their order.
 ghost use Rattle.std.specs.Prelude.{◌≡◌, ◌+◌};
 ghost use Rattle.std.specs.Option.{option_copied};
 ghost use Rattle.layout.specs.Layout.{where_set};

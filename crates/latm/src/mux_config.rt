@@ -15,6 +15,24 @@ use std::alloc::{AllocError, Global};
 /// Well formed where each number fits in its bits; `tara` and `asc_length` are there exactly for version 1, and then
 /// `asc_length` counts the bits of the AudioSpecificConfig with its tail; in version 0 it has no tail; `other` is of the
 /// kind of its version.
+///
+/// ```text
+/// audioMuxVersion             1   0 or 1
+/// audioMuxVersionA            1   for version 1: 0
+/// taraBufferFullness              for version 1: LatmGetValue()
+/// allStreamsSameTimeFraming   1   1
+/// numSubFrames                6
+/// numProgram                  4   0
+/// numLayer                    3   0
+/// ascLen                          for version 1: LatmGetValue(), a number of bits
+/// AudioSpecificConfig             for version 1 in so many bits, up to 7 of them its tail
+/// frameLengthType             3   0
+/// latmBufferFullness          8
+/// otherDataPresent            1
+/// otherDataLenBits                where that is 1: LatmGetValue() for version 1, pairs for version 0
+/// crcCheckPresent             1
+/// crcCheckSum                 8   where that is 1
+/// ```
 #[derive(Debug, Drop)]
 pub struct MuxConfig {
     /// `audioMuxVersion`, 0 or 1.

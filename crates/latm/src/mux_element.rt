@@ -18,6 +18,16 @@ pub type Slots = Items<Octets>;
 ///
 /// The configuration in force is its own, where it has one, and else the one that was in force before. It has as many slots
 /// and as many bits of other data as that says.
+///
+/// ```text
+/// useSameStreamMux       1   1 only where a configuration is in force
+/// StreamMuxConfig            where that is 0
+/// for each of numSubFrames + 1 slots:
+///   MuxSlotLengthBytes
+///   the slot                 so many bytes
+/// other data                 as many bits as the configuration says
+/// the tail                   all bits to the end
+/// ```
 #[derive(Debug, Drop)]
 pub struct MuxElement {
     /// The StreamMuxConfig, where `useSameStreamMux` is 0.

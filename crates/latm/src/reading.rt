@@ -1,25 +1,12 @@
-//   audioMuxVersion             1   0 or 1
-//   audioMuxVersionA            1   for version 1: 0
-//   taraBufferFullness              for version 1: LatmGetValue()
-//   allStreamsSameTimeFraming   1   1
-//   numSubFrames                6
-//   numProgram                  4   0
-//   numLayer                    3   0
-//   ascLen                          for version 1: LatmGetValue(), a number of bits
-//   AudioSpecificConfig             for version 1 in so many bits, up to 7 of them its tail
-//   frameLengthType             3   0
-//   latmBufferFullness          8
-//   otherDataPresent            1
-//   otherDataLenBits                where that is 1: LatmGetValue() for version 1, pairs for version 0
-//   crcCheckPresent             1
-//   crcCheckSum                 8   where that is 1
+// The fields of a configuration, read in their order. On error some fields may already be consumed.
 ghost use Rattle.std.specs.Prelude.{◌≡◌, ◌≤◌, ◌<◌};
 ghost use Rattle.layout.specs.Layout.{wrapped, where_set};
 ghost use Rattle.layout.specs.ToEnd.{inside};
 ghost use Rattle.layout.specs.Reading.{Gives, GivesUnless};
+ghost use Rattle.bit_core.specs.Plain.{number};
 ghost use Rattle.asc.specs.Asc.{asc_counted};
-ghost use Rattle.latm.specs.Faults.{is_memory, from_asc};
-ghost use Rattle.latm.specs.MuxConfig.{number, latm, fixed, short_at, of_version, asc_of, other_length, head, last, fields};
+ghost use Rattle.latm.specs.Faults.{is_memory, from_short, from_asc};
+ghost use Rattle.latm.specs.MuxConfig.{latm, fixed, short_at, of_version, asc_of, other_length, head, last, fields};
 
 use crate::fault::{MuxFault, MuxField};
 use crate::mux_config::MuxConfig;
@@ -142,7 +129,7 @@ fn read_other(
 }
 
 fn read_crc(reader: &mut BitReader, there: bool) -> Result<Option<u8>, MuxFault>
-    ensures { GivesUnless is_memory (where_set there (number 8)) reader.old reader.new result }
+    ensures { GivesUnless is_memory (where_set there (number from_short 8)) reader.old reader.new result }
 {
     if there {
         let crc = small(reader, 8)?;

@@ -1,6 +1,6 @@
 ghost use Rattle.std.specs.Prelude.{◌≡◌, length, slice_get};
 ghost use Rattle.std.specs.Option.{option_copied, option_map};
-ghost use Rattle.latm.specs.Stream.{IsWellFormed, frames_under, frames_of, config_in, au_in};
+ghost use Rattle.latm.specs.Stream.{IsWellFormed, slots_under, frames_of, config_in, au_in};
 
 use crate::mux_config::MuxConfig;
 use crate::mux_element::{MuxElement, Slots};
@@ -24,7 +24,7 @@ type FrameRef<'a> = (&'a UsacConfig, &'a [u8]);
 
 /// How many frames an element has.
 fn count_in(in_force: Option<&MuxConfig>, slots: &Slots) -> u64
-    ensures { result ≡ length (frames_under (option_copied in_force.entry) slots.now) }
+    ensures { result ≡ length (slots_under (option_copied in_force.entry) slots.now) }
 {
     match in_force {
         None => 0,
@@ -38,7 +38,7 @@ fn frame_in<'a>(
     slots: &'a Slots,
     frame: u64,
 ) -> Option<FrameRef<'a>>
-    ensures { option_map (λ found. (found.0.now, found.1.now)) result ≡ slice_get (frames_under (option_copied in_force.entry) slots.now) frame }
+    ensures { option_map (λ found. (found.0.now, found.1.now)) result ≡ slice_get (slots_under (option_copied in_force.entry) slots.now) frame }
 {
     let config = match in_force {
         None => return None,

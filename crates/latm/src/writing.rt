@@ -1,10 +1,12 @@
 // The fields of a configuration, written in their order. On error some fields may already be written.
 ghost use Rattle.std.specs.Prelude.{◌≡◌, ◌++◌, ◌<◌, OnOk};
 ghost use Rattle.layout.specs.Layout.{FitsOption, spelling_of, behind};
+ghost use Rattle.bit_core.specs.Plain.{number};
 ghost use Rattle.bit_core.specs.Writer.{Extends};
+ghost use Rattle.latm.specs.Faults.{from_short};
 ghost use Rattle.esc_value.specs.LatmValue.{IsWellFormed as IsLatmWellFormed};
 ghost use Rattle.asc.specs.Asc.{IsWellFormed as IsAscWellFormed};
-ghost use Rattle.latm.specs.MuxConfig.{IsWellFormed, IsOther, IsCounted, number, latm, tara_fields, asc_of, other_length, head, last, fields};
+ghost use Rattle.latm.specs.MuxConfig.{IsWellFormed, IsOther, IsCounted, latm, tara_fields, asc_of, other_length, head, last, fields};
 
 use crate::mux_config::MuxConfig;
 use crate::other_length::OtherLength;
@@ -91,7 +93,7 @@ fn write_other(
 }
 
 fn write_crc(crc: Option<u8>, writer: &mut BitWriter) -> Result<(), AllocError>
-    ensures ok { OnOk result (writer.new ≡ writer.old ++ spelling_of (number 8).spelling crc) }
+    ensures ok { OnOk result (writer.new ≡ writer.old ++ spelling_of (number from_short 8).spelling crc) }
     ensures kept { Extends writer.old writer.new }
 {
     if let Some(value) = crc {

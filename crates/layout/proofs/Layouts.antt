@@ -5,7 +5,7 @@ use Rattle.std.proofs.lemmas.Bool.{cases_lt, cases_eq, ne_eqb, le-ltb, lt-ltb}
 use Rattle.std.proofs.lemmas.List.{drop_at, drop-drop, length-append, take_at, take-append-drop, append-nil, length-replicate, length-take-le, append_cancel_left}
 use Rattle.std.specs.List.{flat_map, AllByRecursion}
 use Rattle.layout.specs.Exact.{IsField, IsExact, IsOpen}
-use Rattle.layout.specs.Fields.{Field, field, parsed, judged, number, number_parse, flag, none_refused, run, run_parse}
+use Rattle.layout.specs.Fields.{Field, field, parsed, judged, number_field, number_parse, flag_field, none_refused, run_field, run_parse}
 use Rattle.layout.specs.Layout.{◌>>=◌, Layout, both, shaped, fitted, wrapped, error_mapped, known, where_set, FitsOption, spelling_of, whole, at_start, StopsWithin, checked, unless_refused, constant, unless_same, behind, before}
 use Rattle.layout.specs.Reader.{Reader, left, moved}
 use Rattle.layout.specs.Reading.{Gives, GivesUnless, Reads, ReadsUnless}
@@ -230,7 +230,7 @@ where_set-exact {A} {F} true H h = record {
 pub too_long : (t u s : List Bool) (b : Bool) → s ≡ t ++ b ∷ u → length t < length s
 too_long t u s b e = omega (arith, ap length e, length-append t (b ∷ u))
 
-pub flag-field : IsField flag
+pub flag-field : IsField flag_field
 flag-field = record {
   starts = elim [
     | [] ↦ λ v n e. absurd cc
@@ -264,7 +264,7 @@ number_of n t len =
     let k : 0 + length t ≡ n = omega arith in
     (subst (λ (m : ℕ). value_after 0 t < 2 ^ m) len (omega arith), subst (λ (m : ℕ). num m (value_after 0 t) ≡ t) k same)
 
-pub number-field : (n : ℕ) → IsField (number n)
+pub number-field : (n : ℕ) → IsField (number_field n)
 number-field n = record {
   starts = λ t v k e.
       elim (cases_lt (length t) n) [
@@ -597,7 +597,7 @@ run_none n t lt = rw (lt-ltb (length t) n lt) refl
 run_some : (n : ℕ) (t : List Bool) → n ≤ length t → run_parse n t ≡ Some (take n t, n)
 run_some n t le = rw (le-ltb (length t) n le) refl
 
-pub run-field : (n : ℕ) → IsField (run n)
+pub run-field : (n : ℕ) → IsField (run_field n)
 run-field n = record {
   starts = λ t v k e.
       elim (cases_lt (length t) n) [

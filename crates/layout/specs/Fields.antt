@@ -42,20 +42,20 @@ abbrev pub number_parse : ℕ → List Bool → Option (ℕ × ℕ)
 number_parse n t = if nat_lt (length t) n then None else Some (value_after 0 (take n t), n)
 
 -- a number of n bits
-abbrev pub number : ℕ → Field ℕ
-number n = record { Can = λ v. v < 2 ^ n; spelling = num n; parse = number_parse n }
+abbrev pub number_field : ℕ → Field ℕ
+number_field n = record { Can = λ v. v < 2 ^ n; spelling = num n; parse = number_parse n }
 
 abbrev pub flag_parse : List Bool → Option (Bool × ℕ)
 flag_parse [] = None
 flag_parse (b ∷ t) = Some (b, 1)
 
 -- one bit, as a truth value
-abbrev pub flag : Field Bool
-flag = record { Can = λ _. Unit {0}; spelling = λ b. b ∷ []; parse = flag_parse }
+abbrev pub flag_field : Field Bool
+flag_field = record { Can = λ _. Unit {0}; spelling = λ b. b ∷ []; parse = flag_parse }
 
 abbrev pub run_parse : ℕ → List Bool → Option (List Bool × ℕ)
 run_parse n t = if nat_lt (length t) n then None else Some (take n t, n)
 
 -- n bits as they are
-abbrev pub run : ℕ → Field (List Bool)
-run n = record { Can = λ v. length v ≡ n; spelling = λ v. v; parse = run_parse n }
+abbrev pub run_field : ℕ → Field (List Bool)
+run_field n = record { Can = λ v. length v ≡ n; spelling = λ v. v; parse = run_parse n }

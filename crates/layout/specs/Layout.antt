@@ -49,6 +49,10 @@ fitted fits parts made H = record {
   read = λ r. H.read r >>= λ x. Ok (made x.0, x.1);
 }
 
+-- the same bits and the same values; which of these fit is said by itself
+abbrev pub with_fits : {A F : Type 0} → (A → Type 0) → Layout A F → Layout A F
+with_fits fits H = record { Fits = fits; spelling = H.spelling; Faults = H.Faults; read = H.read }
+
 abbrev pub error_mapped : {A F G : Type 0} → (F → G) → Result A F → Result A G
 error_mapped wrap (Ok x) = Ok x
 error_mapped wrap (Err e) = Err (wrap e)

@@ -2,9 +2,13 @@
 -- and that many bytes.
 use Rattle.std.specs.Prelude.{◌≡◌, ◌≢◌, ◌⊎◌, ℕ, ◌+◌, ◌/◌, ◌%◌, ◌<◌, ◌≤◌, List, [], ◌∷◌, ◌++◌, length, take, drop, flat_map, All}
 
+-- the header of a frame: the syncword, and the number of bytes behind it
+abbrev pub header : ℕ → List ℕ
+header n = 86 ∷ (224 + n / 256) ∷ (n % 256) ∷ []
+
 -- the bytes of a frame, by the bytes behind its header
 abbrev pub framed : List ℕ → List ℕ
-framed body = 86 ∷ (224 + length body / 256) ∷ (length body % 256) ∷ body
+framed body = header (length body) ++ body
 
 -- Its length fits in 13 bits.
 abbrev pub IsFrameBody : List ℕ → Type 0

@@ -18,5 +18,5 @@ mod tests;
 pub use fault::LoasFault;
 pub use framed::Framed;
 pub use framer::Loas;
-pub use framing::Front;
+pub use framing::{Front, with_header};
 pub use pieces::{StreamFrames, frames_of};

@@ -13,7 +13,7 @@ use Rattle.usac_cfg.specs.Faults.{is_memory}
 use Rattle.usac_cfg.specs.Spelling.{usac_config}
 use Rattle.usac_cfg.specs.UsacExact.{usac_config_exact}
 use Rattle.preroll.specs.declared.fault.CarryFault.TheVariants.{BadConfig}
-use Rattle.preroll.specs.Faults.{from_config, is_want}
+use Rattle.preroll.specs.Faults.{from_config, is_carry_memory}
 use Rattle.preroll.specs.Carried.{IsConfigIn}
 
 pub one_config : (bytes : List ℕ) (c d : UsacConfig) → IsConfigIn bytes c → IsConfigIn bytes d → c ≡ d
@@ -49,7 +49,7 @@ more_behind bytes old new own d reads is more i =
     let same = prefix_free usac_config usac_config_exact own d (left new) i.behind reads.found.0 i.fits text in
     omega (arith, more, i.few, ap (λ (t : List Bool). length t) same.1)
 
-is_bad : (e : CfgFault) → is_want (from_config e) ≡ false → (from_config e ≡ BadConfig) × (is_memory e ≡ false)
+is_bad : (e : CfgFault) → is_carry_memory (from_config e) ≡ false → (from_config e ≡ BadConfig) × (is_memory e ≡ false)
 is_bad (configs.Memory a) h = absurd cc
 is_bad (configs.Short at) h = (refl, refl)
 is_bad (configs.RateReserved at) h = (refl, refl)
@@ -60,7 +60,7 @@ is_bad (configs.NoChannels at) h = (refl, refl)
 is_bad (configs.TooManyChannels at) h = (refl, refl)
 is_bad (configs.TooManyElements at) h = (refl, refl)
 
-pub is_none : (bytes : List ℕ) (old new : Reader) (e : CfgFault) → ReadsUnless is_memory usac_config old new (Err e) → old ≡ start bytes → is_want (from_config e) ≡ false → (from_config e ≡ BadConfig) × ((d : UsacConfig) → IsConfigIn bytes d → ⊥)
+pub is_none : (bytes : List ℕ) (old new : Reader) (e : CfgFault) → ReadsUnless is_memory usac_config old new (Err e) → old ≡ start bytes → is_carry_memory (from_config e) ≡ false → (from_config e ≡ BadConfig) × ((d : UsacConfig) → IsConfigIn bytes d → ⊥)
 is_none bytes old new e reads is h =
     let bad = is_bad e h in
     (bad.0, λ d i. let free : is_memory e ≡ true = (reads.only d i.behind i.fits (ap (λ (r : Reader). left r) is ∙ i.spelled)).0 in absurd (let never : false ≡ true = sym bad.1 ∙ free in cc))

@@ -15,7 +15,7 @@ use Rattle.preroll.specs.declared.fault.PreFault.{PreFault}
 use Rattle.preroll.specs.declared.fault.PreFault.TheVariants as faults
 use Rattle.preroll.specs.declared.fault.CarryFault.{CarryFault}
 use Rattle.preroll.specs.declared.fault.CarryFault.TheVariants.{NotImmediate, Split, BadPreroll, BadConfig, ConfigDiffers, BadUnit, Nested, FirstDependent, Memory}
-use Rattle.preroll.specs.Faults.{is_memory, is_want, from_preroll}
+use Rattle.preroll.specs.Faults.{is_memory, is_carry_memory, from_preroll}
 use Rattle.preroll.specs.PreRoll.{preroll_text, PreRollFaults, IsWellFormed}
 use Rattle.preroll.specs.Payload.{preroll_of}
 use Rattle.preroll.specs.PreRollExact.{decided}
@@ -87,7 +87,7 @@ carries c f p fs us o are units = record {
 
 -- ---- the first fault
 
-pub preroll_first : (c : UsacConfig) (f : Frame) (payload : List ℕ) (e : PreFault) → (payload_length c f ≡ 0 → ⊥) → is_whole f ≡ true → payload ≡ first_payload f → (is_memory e ≡ false → PreRollFaults e payload) → is_want (from_preroll e) ≡ false → IsFirst c f (from_preroll e)
+pub preroll_first : (c : UsacConfig) (f : Frame) (payload : List ℕ) (e : PreFault) → (payload_length c f ≡ 0 → ⊥) → is_whole f ≡ true → payload ≡ first_payload f → (is_memory e ≡ false → PreRollFaults e payload) → is_carry_memory (from_preroll e) ≡ false → IsFirst c f (from_preroll e)
 preroll_first c f payload (faults.Short at) some whole same bad want = record {
   breaks = subst (λ (x : List ℕ). PreRollFaults (faults.Short at) x) same (bad refl);
   before = pass_3 c f some whole;

@@ -14,7 +14,7 @@ use Rattle.usac_frame.specs.Frame.{FitsConfig, FrameFaults}
 use Rattle.usac_frame.specs.FrameFound.{frame_of_is}
 use Rattle.usac_frame.specs.Units.{unit_of, payload_length}
 use Rattle.preroll.specs.declared.fault.CarryFault.{CarryFault}
-use Rattle.preroll.specs.Faults.{of_unit, is_want}
+use Rattle.preroll.specs.Faults.{of_unit, is_carry_memory}
 use Rattle.preroll.specs.Carried.{IsAFrame, preroll_bytes, IsNestedUnit, starts_independent}
 use Rattle.preroll.specs.Steps.{AreFrames, IsUnitFault, HaveNoPreRoll, first_independent}
 
@@ -86,6 +86,6 @@ is_nested c (u ∷ us) (h ∷ fs) (suc k) g e there some none =
     (n.0, n.1, n.2, (bytes_are c u h front.0 ∙ none.0, n.3))
 
 -- a fault of access unit k, where those before it are frames
-pub is_short : (c : UsacConfig) (us : List (List ℕ)) (fs : List Frame) (k : ℕ) (u : List ℕ) (f : FrameFault) (e : CarryFault) → AreFrames c (take k us) fs → slice_get us k ≡ Some u → e ≡ of_unit k f → FrameFaults c f (bits_of u) → is_want e ≡ false → IsUnitFault c us e
+pub is_short : (c : UsacConfig) (us : List (List ℕ)) (fs : List Frame) (k : ℕ) (u : List ℕ) (f : FrameFault) (e : CarryFault) → AreFrames c (take k us) fs → slice_get us k ≡ Some u → e ≡ of_unit k f → FrameFaults c f (bits_of u) → is_carry_memory e ≡ false → IsUnitFault c us e
 is_short c us fs k u (frames.Short at) e before there is fault want = (k, at, is, (u, there, fault, all_frames c (take k us) fs before))
-is_short c us fs k u (frames.Memory a) e before there is fault want = absurd (let never : true ≡ false = sym (ap is_want is) ∙ want in cc)
+is_short c us fs k u (frames.Memory a) e before there is fault want = absurd (let never : true ≡ false = sym (ap is_carry_memory is) ∙ want in cc)

@@ -46,13 +46,13 @@ of_unit k (frames.Short at) = BadUnit k at
 of_unit k (frames.Memory e) = Memory e
 
 -- carrying failed out of memory
-abbrev pub is_want : CarryFault → Bool
-is_want NotImmediate = false
-is_want Split = false
-is_want (BadPreroll at) = false
-is_want BadConfig = false
-is_want ConfigDiffers = false
-is_want (BadUnit k at) = false
-is_want (Nested k) = false
-is_want FirstDependent = false
-is_want (Memory e) = true
+abbrev pub is_carry_memory : CarryFault → Bool
+is_carry_memory NotImmediate = false
+is_carry_memory Split = false
+is_carry_memory (BadPreroll at) = false
+is_carry_memory BadConfig = false
+is_carry_memory ConfigDiffers = false
+is_carry_memory (BadUnit k at) = false
+is_carry_memory (Nested k) = false
+is_carry_memory FirstDependent = false
+is_carry_memory (Memory e) = true

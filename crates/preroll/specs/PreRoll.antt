@@ -2,33 +2,22 @@
 use Rattle.std.specs.Prelude.{ℕ, ◌≤◌, ◌<◌, Bool, List, length}
 use Rattle.std.specs.List.{AllByRecursion}
 use Rattle.layout.specs.Text.{bits_of}
-use Rattle.layout.specs.Layout.{Layout, both, shaped, fitted, wrapped}
+use Rattle.layout.specs.Layout.{Layout, both, shaped, fitted}
 use Rattle.layout.specs.Times.{times}
 use Rattle.layout.specs.ToEnd.{rest}
-use Rattle.bit_core.specs.declared.faults.ReadFault.TheVariants as reads
-use Rattle.bit_core.specs.Plain.{bit, octets}
-use Rattle.esc_value.specs.Escaped.{escaped}
+use Rattle.bit_core.specs.Plain.{flag, run_of_bytes}
+use Rattle.esc_value.specs.Escaped.{escaped_value}
 use Rattle.preroll.specs.declared.fault.PreFault.{PreFault}
 use Rattle.preroll.specs.declared.preroll.PreRoll.{PreRoll}
 use Rattle.preroll.specs.Faults.{from_short, from_read}
 
--- an escapedValue, one bit, and n bytes
-abbrev pub number : ℕ → ℕ → ℕ → Layout ℕ PreFault
-number a b c = wrapped from_short (escaped a b c)
-
-abbrev pub flag : Layout Bool PreFault
-flag = wrapped from_short bit
-
-abbrev pub run_of_bytes : ℕ → Layout (List ℕ) PreFault
-run_of_bytes n = wrapped from_read (wrapped reads.Short (octets n))
-
 -- a length in bytes, which is an escapedValue, and so many bytes
 abbrev pub counted_bytes : ℕ → ℕ → ℕ → Layout (List ℕ) PreFault
-counted_bytes a b c = shaped (λ v. (length v, v)) (λ x. x.1) (both (number a b c) run_of_bytes)
+counted_bytes a b c = shaped (λ v. (length v, v)) (λ x. x.1) (both (escaped_value from_short a b c) (run_of_bytes from_read))
 
 -- numPreRollFrames, and for each auLen and the access unit
 abbrev pub units : Layout (List (List ℕ)) PreFault
-units = shaped (λ us. (length us, us)) (λ x. x.1) (both (number 2 4 0) (λ n. times n (counted_bytes 16 16 0)))
+units = shaped (λ us. (length us, us)) (λ x. x.1) (both (escaped_value from_short 2 4 0) (λ n. times n (counted_bytes 16 16 0)))
 
 -- at most so many, and each of them a byte
 abbrev pub HasBytes : ℕ → List ℕ → Type 0
@@ -45,7 +34,7 @@ abbrev pub preroll : Layout PreRoll PreFault
 preroll = fitted IsWellFormed
     (λ p. (p.config, (p.fade, (p.reserved, (p.units, p.tail)))))
     (λ (config, (fade, (reserved, (units, tail)))). record { config = config; fade = fade; reserved = reserved; units = units; tail = tail })
-    (both (counted_bytes 4 4 8) (λ _. both flag (λ _. both flag (λ _. both units (λ _. rest)))))
+    (both (counted_bytes 4 4 8) (λ _. both (flag from_short) (λ _. both (flag from_short) (λ _. both units (λ _. rest)))))
 
 -- the spelling of a preroll
 abbrev pub preroll_text : PreRoll → List Bool

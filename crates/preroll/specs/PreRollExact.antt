@@ -3,24 +3,20 @@ use Rattle.std.proofs.Common.{ℕ, List, refl, ap}
 use Rattle.layout.specs.Exact.{IsExact, IsExactToEnd}
 use Rattle.layout.specs.Laws.{SpellsOnce, IsDecidedWhole}
 use Rattle.layout.proofs.Every.{all_so}
-use Rattle.layout.proofs.Layouts.{both-exact, shaped-exact, wrapped-exact, times-exact}
+use Rattle.layout.proofs.Layouts.{both-exact, shaped-exact, times-exact}
 use Rattle.layout.proofs.ToEnd.{both-to_end, fitted-to_end, rest-to_end}
 use Rattle.layout.proofs.Whole.{spells_once, decided_whole}
-use Rattle.bit_core.specs.declared.faults.ReadFault.TheVariants as reads
-use Rattle.bit_core.proofs.PlainFacts.{bit-exact, octets-exact}
-use Rattle.esc_value.specs.EscapedExact.{escaped_exact}
+use Rattle.bit_core.proofs.PlainFacts.{flag-exact, run_of_bytes-exact}
+use Rattle.esc_value.specs.EscapedExact.{escaped_value-exact}
 use Rattle.preroll.specs.Faults.{from_short, from_read}
-use Rattle.preroll.specs.PreRoll.{flag, counted_bytes, units, HasBytes, IsWellFormed, preroll}
-
-flag-exact : IsExact flag
-flag-exact = wrapped-exact from_short _ bit-exact
+use Rattle.preroll.specs.PreRoll.{counted_bytes, units, HasBytes, IsWellFormed, preroll}
 
 counted-exact : (a b c : ℕ) → IsExact (counted_bytes a b c)
-counted-exact a b c = shaped-exact _ _ _ (both-exact _ _ (wrapped-exact from_short _ (escaped_exact a b c)) (λ n. wrapped-exact from_read _ (wrapped-exact (λ s. reads.Short s) _ (octets-exact n))))
+counted-exact a b c = shaped-exact _ _ _ (both-exact _ _ (escaped_value-exact from_short a b c) (run_of_bytes-exact from_read))
     (λ v h. ap (λ (n : ℕ). let x : ℕ × List ℕ = (n, v.1) in x) h.1.0) (λ v h. refl)
 
 units-exact : IsExact units
-units-exact = shaped-exact _ _ _ (both-exact _ _ (wrapped-exact from_short _ (escaped_exact 2 4 0)) (λ n. times-exact n _ (counted-exact 16 16 0)))
+units-exact = shaped-exact _ _ _ (both-exact _ _ (escaped_value-exact from_short 2 4 0) (λ n. times-exact n _ (counted-exact 16 16 0)))
     (λ v h. ap (λ (n : ℕ). let x : ℕ × List (List ℕ) = (n, v.1) in x) h.1.0) (λ v h. refl)
 
 -- ---- what fits
@@ -39,7 +35,7 @@ unit_there : (v : List ℕ) → HasBytes 131070 v → (counted_bytes 16 16 0).Fi
 unit_there v h = (h.0, (refl, all_so _ _ (λ b lt. (lt, refl)) v h.1))
 
 pub preroll_exact : IsExactToEnd preroll
-preroll_exact = fitted-to_end IsWellFormed _ _ _ (both-to_end _ _ (counted-exact 4 4 8) (λ _. both-to_end _ _ flag-exact (λ _. both-to_end _ _ flag-exact (λ _. both-to_end _ _ units-exact (λ _. rest-to_end)))))
+preroll_exact = fitted-to_end IsWellFormed _ _ _ (both-to_end _ _ (counted-exact 4 4 8) (λ _. both-to_end _ _ (flag-exact from_short) (λ _. both-to_end _ _ (flag-exact from_short) (λ _. both-to_end _ _ units-exact (λ _. rest-to_end)))))
     (λ a h. refl)
     (λ a h. record { config = config_good a.0 h.0; few = h.1.1.1.0.0; units = all_so _ _ unit_good a.1.1.1.0 h.1.1.1.0.1.1 })
     (λ p w. ((config_there p.config w.config, ((tt, refl), ((tt, refl), ((w.few, (refl, all_so _ _ unit_there p.units w.units)), tt)))), refl))

@@ -3,7 +3,7 @@ ghost use Rattle.layout.specs.Reader.{left};
 ghost use Rattle.usac_cfg.specs.UsacConfig.{IsWellFormed};
 ghost use Rattle.usac_frame.specs.Frame.{FitsConfig};
 ghost use Rattle.preroll.specs.declared.fault.CarryFault.TheVariants.{BadConfig};
-ghost use Rattle.preroll.specs.Faults.{is_want};
+ghost use Rattle.preroll.specs.Faults.{is_carry_memory};
 ghost use Rattle.preroll.specs.Carried.{IsConfigIn, IsNoConfig, IsOtherConfig, IsFirst, Carries};
 ghost use Rattle.preroll.specs.Steps.{IsConfigFault, IsOpened, AreCarried};
 
@@ -27,7 +27,7 @@ fn has_byte_left(reader: &BitReader) -> bool
 fn read_config(alloc: Global, bytes: &[u8]) -> Result<UsacConfig, CarryFault>
     requires { length bytes.now ≤ 16777216 }
     ensures found { IfOk result (λ own. IsConfigIn bytes.now own) }
-    ensures bad { IfErr result (λ e. is_want e ≡ false → (e ≡ BadConfig) × ((d : UsacConfig) → IsConfigIn bytes.now d → ⊥)) }
+    ensures bad { IfErr result (λ e. is_carry_memory e ≡ false → (e ≡ BadConfig) × ((d : UsacConfig) → IsConfigIn bytes.now d → ⊥)) }
 {
     let mut reader = BitReader::new(bytes);
     let own = UsacConfig::read(alloc, &mut reader)?;
@@ -49,7 +49,7 @@ fn check_config(alloc: Global, config: &UsacConfig, bytes: &[u8]) -> Result<(), 
     requires { length bytes.now ≤ 16777216 }
     ensures good { OnOk result (IsNoConfig bytes.now → ⊥) }
     ensures same { OnOk result (IsOtherConfig config.now bytes.now → ⊥) }
-    ensures bad { IfErr result (λ e. is_want e ≡ false → IsConfigFault config.now bytes.now e) }
+    ensures bad { IfErr result (λ e. is_carry_memory e ≡ false → IsConfigFault config.now bytes.now e) }
 {
     if is_left_out(bytes) {
         return Ok(());
@@ -66,7 +66,7 @@ fn read_whole(alloc: Global, config: &UsacConfig, frame: &Frame) -> Result<PreRo
     requires well_formed { IsWellFormed config.now }
     requires fits { FitsConfig config.now frame.now }
     ensures found { IfOk result (λ preroll. IsOpened config.now frame.now preroll) }
-    ensures refused { IfErr result (λ e. is_want e ≡ false → IsFirst config.now frame.now e) }
+    ensures refused { IfErr result (λ e. is_carry_memory e ≡ false → IsFirst config.now frame.now e) }
 {
     if payload_length(config, frame) == 0 {
         return Err(CarryFault::NotImmediate);
@@ -87,7 +87,7 @@ fn read_frames(
 ) -> Result<Frames, CarryFault>
     requires { IsOpened config.now frame.now preroll.now }
     ensures found { IfOk result (λ frames. AreCarried config.now frame.now preroll.now frames) }
-    ensures refused { IfErr result (λ e. is_want e ≡ false → IsFirst config.now frame.now e) }
+    ensures refused { IfErr result (λ e. is_carry_memory e ≡ false → IsFirst config.now frame.now e) }
 {
     check_config(alloc, config, preroll.config.as_slice())?;
     let frames = read_units(alloc, config, preroll.units.as_slice())?;
@@ -110,7 +110,7 @@ pub fn carried(
     requires well_formed { IsWellFormed config.now }
     requires fits { FitsConfig config.now frame.now }
     ensures found { IfOk result (λ carried. Carries config.now frame.now carried.fade carried.units) }
-    ensures refused { IfErr result (λ e. is_want e ≡ false → IsFirst config.now frame.now e) }
+    ensures refused { IfErr result (λ e. is_carry_memory e ≡ false → IsFirst config.now frame.now e) }
 {
     let preroll = read_whole(alloc, config, frame)?;
     let frames = read_frames(alloc, config, frame, &preroll)?;

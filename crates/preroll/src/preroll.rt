@@ -23,6 +23,18 @@ pub type UnitBytes = Items<Octets>;
 /// preroll.units     // one access unit, 80
 /// preroll.tail      // no bits
 /// ```
+///
+/// ```text
+/// configLen          escapedValue(4, 4, 8)
+/// Config             8 for each byte of the length
+/// applyCrossfade     1
+/// reserved           1
+/// numPreRollFrames   escapedValue(2, 4, 0)
+/// for each of them:
+///   auLen            escapedValue(16, 16, 0)
+///   AccessUnit       8 for each byte of the length
+/// the tail           all bits to the end
+/// ```
 #[derive(Debug, Drop)]
 pub struct PreRoll {
     /// The configuration: a UsacConfig and up to 7 bits behind it, or empty, where it is the frame's.

@@ -1,12 +1,4 @@
-//   configLen          escapedValue(4, 4, 8)
-//   Config             8 for each byte of the length
-//   applyCrossfade     1
-//   reserved           1
-//   numPreRollFrames   escapedValue(2, 4, 0)
-//   for each of them:
-//     auLen            escapedValue(16, 16, 0)
-//     AccessUnit       8 for each byte of the length
-//   the tail           all bits to the end
+// The fields of a preroll, read in their order.
 ghost use Rattle.layout.specs.Reading.{GivesUnless};
 ghost use Rattle.layout.specs.Times.{times};
 ghost use Rattle.preroll.specs.Faults.{is_memory};
@@ -18,7 +10,7 @@ use bit_core::{BitReader, Octets, flag};
 use esc_value::Escaped;
 use std::alloc::Global;
 
-fn read_config(alloc: Global, reader: &mut BitReader) -> Result<Octets, PreFault>
+fn read_config_bytes(alloc: Global, reader: &mut BitReader) -> Result<Octets, PreFault>
     ensures { GivesUnless is_memory (counted_bytes 4 4 8) reader.old reader.new result }
 {
     let length = Escaped::<4, 4, 8>::read(reader)?;
@@ -26,7 +18,7 @@ fn read_config(alloc: Global, reader: &mut BitReader) -> Result<Octets, PreFault
     Ok(bytes)
 }
 
-fn read_unit(alloc: Global, reader: &mut BitReader) -> Result<Octets, PreFault>
+fn read_unit_bytes(alloc: Global, reader: &mut BitReader) -> Result<Octets, PreFault>
     ensures { GivesUnless is_memory (counted_bytes 16 16 0) reader.old reader.new result }
 {
     let length = Escaped::<16, 16, 0>::read(reader)?;
@@ -34,32 +26,32 @@ fn read_unit(alloc: Global, reader: &mut BitReader) -> Result<Octets, PreFault>
     Ok(bytes)
 }
 
-fn read_each(alloc: Global, reader: &mut BitReader, count: u32) -> Result<UnitBytes, PreFault>
+fn read_each_unit_bytes(alloc: Global, reader: &mut BitReader, count: u32) -> Result<UnitBytes, PreFault>
     ensures { GivesUnless is_memory (times count (counted_bytes 16 16 0)) reader.old reader.new result }
 {
     let mut units = UnitBytes::new(alloc);
     for _ in 0..count {
-        let unit = read_unit(alloc, reader)?;
+        let unit = read_unit_bytes(alloc, reader)?;
         units.push(unit)?;
     }
     Ok(units)
 }
 
-fn read_units(alloc: Global, reader: &mut BitReader) -> Result<UnitBytes, PreFault>
+fn read_all_unit_bytes(alloc: Global, reader: &mut BitReader) -> Result<UnitBytes, PreFault>
     ensures { GivesUnless is_memory units reader.old reader.new result }
 {
     let count = Escaped::<2, 4, 0>::read(reader)?;
-    read_each(alloc, reader, count)
+    read_each_unit_bytes(alloc, reader, count)
 }
 
 /// Reads a preroll up to the reader's end. On error some fields may already be consumed.
 pub fn read_fields(alloc: Global, reader: &mut BitReader) -> Result<PreRoll, PreFault>
     ensures { GivesUnless is_memory preroll reader.old reader.new result }
 {
-    let config = read_config(alloc, reader)?;
+    let config = read_config_bytes(alloc, reader)?;
     let fade = flag(reader)?;
     let reserved = flag(reader)?;
-    let units = read_units(alloc, reader)?;
+    let units = read_all_unit_bytes(alloc, reader)?;
     let left = reader.left();
     let tail = reader.take_bits(alloc, left)?;
     Ok(PreRoll {

@@ -5,7 +5,7 @@ ghost use Rattle.layout.specs.Text.{bits_of};
 ghost use Rattle.usac_frame.specs.AccessUnit.{frame_of};
 ghost use Rattle.usac_frame.specs.Frame.{FitsConfig, FrameFaults};
 ghost use Rattle.usac_frame.specs.Units.{unit_of};
-ghost use Rattle.preroll.specs.Faults.{is_want, of_unit};
+ghost use Rattle.preroll.specs.Faults.{is_carry_memory, of_unit};
 ghost use Rattle.preroll.specs.PreRoll.{HasBytes};
 ghost use Rattle.preroll.specs.Steps.{IsUnitFault, HaveNoPreRoll, IsNestedFault, first_independent};
 
@@ -22,7 +22,7 @@ pub type Frames = Items<Frame>;
 fn read_unit(alloc: Global, config: &UsacConfig, k: u32, unit: &[u8]) -> Result<Frame, CarryFault>
     requires { length unit.now ≤ 16777216 }
     ensures found { IfOk result (λ frame. frame_of config.now unit.now ≡ Some frame) }
-    ensures bad { IfErr result (λ e. is_want e ≡ false → (f : FrameFault) × (e ≡ of_unit k f) × FrameFaults config.now f (bits_of unit.now)) }
+    ensures bad { IfErr result (λ e. is_carry_memory e ≡ false → (f : FrameFault) × (e ≡ of_unit k f) × FrameFaults config.now f (bits_of unit.now)) }
 {
     match read_frame(alloc, config, unit) {
         Ok(frame) => Ok(frame),
@@ -39,7 +39,7 @@ pub fn read_units(
     requires few { length units.now ≤ 18 }
     requires bytes { AllByRecursion (HasBytes 131070) units.now }
     ensures found { IfOk result (λ frames. map (frame_of config.now) units.now ≡ map Some frames) }
-    ensures bad { IfErr result (λ e. is_want e ≡ false → IsUnitFault config.now units.now e) }
+    ensures bad { IfErr result (λ e. is_carry_memory e ≡ false → IsUnitFault config.now units.now e) }
 {
     let mut frames = Frames::new(alloc);
     for k in 0..units.len() {

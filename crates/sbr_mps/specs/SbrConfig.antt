@@ -1,6 +1,6 @@
 -- The settings of spectral band replication (ISO/IEC 23003-3, SbrConfig).
 use Rattle.std.specs.Prelude.{◌<◌, is_some}
-use Rattle.layout.specs.Layout.{Layout, both, shaped, where_set, FitsOption}
+use Rattle.layout.specs.Layout.{Layout, both, shaped, where_set, with_fits, FitsOption}
 use Rattle.bit_core.specs.declared.faults.Short.{Short}
 use Rattle.bit_core.specs.Plain.{bits, bit}
 use Rattle.sbr_mps.specs.declared.sbr.SbrConfig.{SbrConfig}
@@ -55,9 +55,4 @@ fields = shaped
 
 -- the well formed settings, in these fields
 abbrev pub sbr_config : Layout SbrConfig Short
-sbr_config = record {
-  Fits = IsWellFormed;
-  spelling = fields.spelling;
-  Faults = fields.Faults;
-  read = fields.read;
-}
+sbr_config = with_fits IsWellFormed fields

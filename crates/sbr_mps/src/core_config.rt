@@ -1,5 +1,3 @@
-//   tw_mdct        1
-//   noiseFilling   1
 ghost use Rattle.std.specs.Prelude.{◌≡◌, ◌++◌, OnOk, OnErr};
 ghost use Rattle.layout.specs.Reading.{Gives, Reads};
 ghost use Rattle.bit_core.specs.Writer.{Extends};
@@ -10,6 +8,11 @@ use bit_core::{BitReader, BitWriter, Short, flag};
 use std::alloc::AllocError;
 
 /// The settings of a core element's core (ISO/IEC 23003-3, UsacCoreConfig).
+///
+/// ```text
+/// tw_mdct        1
+/// noiseFilling   1
+/// ```
 #[derive(Clone, Copy, Debug, PartialEq, Eq)]
 pub struct CoreConfig {
     /// `tw_mdct`: the time-warped transform is used.

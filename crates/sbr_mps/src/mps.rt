@@ -1,14 +1,3 @@
-//   bsFreqRes                3
-//   bsFixedGainDMX           3
-//   bsTempShapeConfig        2
-//   bsDecorrConfig           2
-//   bsHighRateMode           1
-//   bsPhaseCoding            1
-//   bsOttBandsPhasePresent   1
-//   bsOttBandsPhase          5   where bsOttBandsPhasePresent is 1
-//   bsResidualBands          5   these two where stereoConfigIndex is 2 or 3
-//   bsPseudoLr               1
-//   bsEnvQuantMode           1   where bsTempShapeConfig is 2
 ghost use Rattle.std.specs.Prelude.{◌≡◌, ◌<◌, ◌++◌, ◌==◌, ◌↔◌, IsTrue, is_some, OnOk, OnErr};
 ghost use Rattle.layout.specs.Layout.{where_set, FitsOption, spelling_of};
 ghost use Rattle.layout.specs.Reading.{Gives, Reads};
@@ -34,6 +23,20 @@ pub struct Residual {
 /// The settings of MPEG Surround 2-1-2 (ISO/IEC 23003-3, Mps212Config).
 ///
 /// Well formed where each number fits in its bits and `env_quant` is there exactly where `temp_shape` is 2.
+///
+/// ```text
+/// bsFreqRes                3
+/// bsFixedGainDMX           3
+/// bsTempShapeConfig        2
+/// bsDecorrConfig           2
+/// bsHighRateMode           1
+/// bsPhaseCoding            1
+/// bsOttBandsPhasePresent   1
+/// bsOttBandsPhase          5   where bsOttBandsPhasePresent is 1
+/// bsResidualBands          5   these two where stereoConfigIndex is 2 or 3
+/// bsPseudoLr               1
+/// bsEnvQuantMode           1   where bsTempShapeConfig is 2
+/// ```
 #[derive(Clone, Copy, Debug, PartialEq, Eq)]
 pub struct Mps212 {
     /// `bsFreqRes`, from 0 to 7.

@@ -1,18 +1,3 @@
-//   harmonicSBR            1
-//   bs_interTes            1
-//   bs_pvc                 1
-//   SbrDfltHeader
-//     dflt_start_freq      4
-//     dflt_stop_freq       4
-//     dflt_header_extra1   1
-//     dflt_header_extra2   1
-//     dflt_freq_scale      2   these three where dflt_header_extra1 is 1
-//     dflt_alter_scale     1
-//     dflt_noise_bands     2
-//     dflt_limiter_bands   2   these four where dflt_header_extra2 is 1
-//     dflt_limiter_gains   2
-//     dflt_interpol_freq   1
-//     dflt_smoothing_mode  1
 ghost use Rattle.std.specs.Prelude.{◌≡◌, ◌++◌, ◌↔◌, IsTrue, OnOk, OnErr};
 ghost use Rattle.layout.specs.Layout.{where_set, FitsOption, spelling_of};
 ghost use Rattle.layout.specs.Reading.{Gives, Reads};
@@ -54,6 +39,24 @@ pub struct SbrLimit {
 /// The settings of spectral band replication (ISO/IEC 23003-3, SbrConfig).
 ///
 /// Well formed where each number fits in its bits.
+///
+/// ```text
+/// harmonicSBR            1
+/// bs_interTes            1
+/// bs_pvc                 1
+/// SbrDfltHeader
+///   dflt_start_freq      4
+///   dflt_stop_freq       4
+///   dflt_header_extra1   1
+///   dflt_header_extra2   1
+///   dflt_freq_scale      2   these three where dflt_header_extra1 is 1
+///   dflt_alter_scale     1
+///   dflt_noise_bands     2
+///   dflt_limiter_bands   2   these four where dflt_header_extra2 is 1
+///   dflt_limiter_gains   2
+///   dflt_interpol_freq   1
+///   dflt_smoothing_mode  1
+/// ```
 #[derive(Clone, Copy, Debug, PartialEq, Eq)]
 pub struct SbrConfig {
     /// `harmonicSBR`

@@ -2,6 +2,7 @@
 use Rattle.std.specs.Prelude.{ℕ, Bool, true, false, List, [], ◌∷◌, ◌++◌, Option, Some, None, codes, decimal}
 use Rattle.std.specs.List.{flat_map}
 use Rattle.hex.specs.Hex.{encode_lower}
+use Rattle.layout.specs.Text.{digit}
 
 -- one text, and another one behind it
 infixr 10 ◌&◌
@@ -11,10 +12,6 @@ text & more = text ++ more
 -- absent or empty
 abbrev pub dash : List ℕ
 dash = codes "-"
-
-abbrev pub digit : Bool → ℕ
-digit true = 1
-digit false = 0
 
 -- a truth value: 1 or 0
 abbrev pub truth : Bool → List ℕ

@@ -1,6 +1,6 @@
 // The line of a stream that was checked.
 ghost use Rattle.std.specs.Prelude.{◌≡◌, IfOk};
-ghost use Rattle.tool_text.specs.CheckLine.{check_line};
+ghost use Rattle.tool_text.specs.CheckText.{check_line};
 
 use bit_core::Octets;
 use std::alloc::{AllocError, Global};

@@ -81,7 +81,8 @@ pub fn mux_refusal(frame: u64, fault: &MuxFault) -> Option<Refusal>
     }
 }
 
-fn at_frame(frame: u64, reason: Reason) -> Refusal
+/// The refusal of the frame of this number, for that reason.
+pub fn at_frame(frame: u64, reason: Reason) -> Refusal
     ensures { result ≡ at_frame frame reason }
 {
     Refusal {

@@ -1,7 +1,7 @@
 // The line of a frame.
 ghost use Rattle.std.specs.Prelude.{◌≡◌, ◌++◌, IfOk, OnOk};
 ghost use Rattle.std.specs.String.{string_bytes};
-ghost use Rattle.tool_text.specs.FrameLine.{length_or_dash, lengths_behind_commas, leading_text, frame_line};
+ghost use Rattle.tool_text.specs.FrameText.{length_or_dash, lengths_behind_commas, leading_text, frame_line};
 
 use crate::parts::{dash, digit};
 use bit_core::Octets;

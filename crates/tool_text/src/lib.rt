@@ -8,26 +8,26 @@
 #![tactic(auto)]
 
 mod check_text;
-mod element_lines;
+mod element_text;
 mod faults;
 mod frame_text;
-mod lines;
-mod mux_line;
+mod configuration_text;
+mod mux_text;
 mod parts;
 mod preroll_text;
 mod refusal;
 #[cfg(test)]
 mod refusal_tests;
 mod refusal_text;
-mod setting_lines;
+mod setting_text;
 #[cfg(test)]
 mod tests;
 
 pub use check_text::check_line;
-pub use faults::{carry_refusal, loas_refusal, mux_refusal};
+pub use faults::{at_frame, carry_refusal, loas_refusal, mux_refusal};
 pub use frame_text::frame_line;
-pub use lines::configuration_lines;
-pub use mux_line::mux_lines;
+pub use configuration_text::configuration_lines;
+pub use mux_text::mux_lines;
 pub use preroll_text::{bad_preroll_line, preroll_lines};
 pub use refusal::{Place, Reason, Refusal, Within};
 pub use refusal_text::refusal_line;

@@ -1,7 +1,8 @@
 // The parts of a line.
 ghost use Rattle.std.specs.Prelude.{◌≡◌, ◌++◌, IfOk, OnOk};
 ghost use Rattle.std.specs.String.{string_bytes};
-ghost use Rattle.tool_text.specs.Parts.{dash, digit, number_or_dash, truth_or_dash, hex_or_dash, behind_commas, joined};
+ghost use Rattle.layout.specs.Text.{digit};
+ghost use Rattle.tool_text.specs.Parts.{dash, number_or_dash, truth_or_dash, hex_or_dash, behind_commas, joined};
 
 use std::alloc::{AllocError, Global};
 

@@ -1,6 +1,6 @@
 // The lines of the preroll of an immediate play-out frame.
 ghost use Rattle.std.specs.Prelude.{◌≡◌, ◌++◌, IfOk, OnOk};
-ghost use Rattle.tool_text.specs.PreRollLines.{bad_line, preroll_line, unit_line, units_from, lines_of_preroll};
+ghost use Rattle.tool_text.specs.PreRollText.{bad_line, preroll_line, unit_line, units_from, lines_of_preroll};
 
 use crate::parts::{digit, hex_or_dash};
 use bit_core::{Items, Octets};

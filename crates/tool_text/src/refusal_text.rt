@@ -1,7 +1,7 @@
 // The line that tells a refusal.
 ghost use Rattle.std.specs.Prelude.{◌≡◌, IfOk};
 ghost use Rattle.std.specs.String.{string_bytes};
-ghost use Rattle.tool_text.specs.Refusal.{field_name, within_text, place_text, reason_text, refusal_text};
+ghost use Rattle.tool_text.specs.RefusalText.{field_name, within_text, place_text, reason_text, refusal_text};
 
 use crate::refusal::{Place, Reason, Refusal, Within};
 use bit_core::Octets;

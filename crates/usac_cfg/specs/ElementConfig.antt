@@ -1,9 +1,9 @@
 -- The configuration of an element (ISO/IEC 23003-3, UsacDecoderConfig and the element configurations that it names).
 use Rattle.std.specs.Prelude.{◌≡◌, ℕ, zero, suc, ◌<◌, Bool, true, false, Option, Some, None, is_some, nat_lt}
-use Rattle.layout.specs.Layout.{Layout, both, wrapped, known, where_set, FitsOption}
+use Rattle.layout.specs.Layout.{Layout, both, with_fits, wrapped, known, where_set, FitsOption}
 use Rattle.layout.specs.Tagged.{tagged, as_variant}
 use Rattle.bit_core.specs.declared.faults.Short.{Short}
-use Rattle.bit_core.specs.Plain.{bits}
+use Rattle.bit_core.specs.Plain.{bits, number}
 use Rattle.sbr_mps.specs.declared.core_config.CoreConfig.{CoreConfig}
 use Rattle.sbr_mps.specs.declared.sbr.SbrConfig.{SbrConfig}
 use Rattle.sbr_mps.specs.declared.mps.Mps212.{Mps212}
@@ -12,10 +12,10 @@ use Rattle.sbr_mps.specs.SbrConfig as sbr
 use Rattle.sbr_mps.specs.Mps212 as mps
 use Rattle.usac_cfg.specs.declared.element_config.ElementConfig.{ElementConfig}
 use Rattle.usac_cfg.specs.declared.element_config.ElementConfig.TheVariants.{Single, Pair, Lfe, Ext}
-use Rattle.usac_cfg.specs.declared.ext_config.ExtConfig.{ExtConfig}
+use Rattle.usac_cfg.specs.declared.extension_element.ExtConfig.{ExtConfig}
 use Rattle.usac_cfg.specs.declared.faults.CfgFault.{CfgFault}
 use Rattle.usac_cfg.specs.Faults.{from_short}
-use Rattle.usac_cfg.specs.ExtConfig.{ext_config, IsWellFormed as IsExtWellFormed}
+use Rattle.usac_cfg.specs.ExtensionElement.{extension_element, IsWellFormed as IsExtWellFormed}
 
 -- SBR is there exactly where the configuration has it, and is well formed.
 abbrev pub HasSbr : Bool → Option SbrConfig → Type 0
@@ -85,17 +85,12 @@ body has_sbr (suc zero) = wrapped from_short (pair has_sbr)
 -- UsacLfeElementConfig
 body has_sbr (suc (suc zero)) = known Lfe
 -- UsacExtElementConfig
-body has_sbr (suc (suc (suc n))) = as_variant (λ e. Ext e) ext_of ext_config
+body has_sbr (suc (suc (suc n))) = as_variant (λ e. Ext e) ext_of extension_element
 
 -- usacElementType, and what stands behind it
 abbrev pub fields : Bool → Layout ElementConfig CfgFault
-fields has_sbr = tagged kind_of (wrapped from_short (bits 2)) (body has_sbr)
+fields has_sbr = tagged kind_of (number from_short 2) (body has_sbr)
 
 -- the well formed ones, in these fields
 abbrev pub element : Bool → Layout ElementConfig CfgFault
-element has_sbr = record {
-  Fits = IsWellFormed has_sbr;
-  spelling = let L = fields has_sbr in L.spelling;
-  Faults = let L = fields has_sbr in L.Faults;
-  read = let L = fields has_sbr in L.read;
-}
+element has_sbr = with_fits (IsWellFormed has_sbr) (fields has_sbr)

@@ -1,7 +1,7 @@
 pub mod Faults
-pub mod ExtConfig
+pub mod ExtensionElement
 pub mod ElementConfig
-pub mod ConfigExt
+pub mod ConfigExtension
 pub mod UsacConfig
 pub mod Spelling
 pub mod UsacExact

@@ -1,21 +1,17 @@
 -- How a configuration is spelled, field by field (ISO/IEC 23003-3, UsacConfig).
 use Rattle.std.specs.Prelude.{ℕ, ◌+◌, ◌-◌, Bool, true, false, List, [], length, Option, Some, None, nat_lt, ◌==◌, if◌then◌else◌}
-use Rattle.layout.specs.Layout.{Layout, both, shaped, wrapped, checked, known}
+use Rattle.layout.specs.Layout.{Layout, both, shaped, with_fits, checked, known}
 use Rattle.layout.specs.Times.{times}
-use Rattle.bit_core.specs.Plain.{bits}
-use Rattle.esc_value.specs.Escaped.{escaped}
+use Rattle.bit_core.specs.Plain.{number}
+use Rattle.esc_value.specs.Escaped.{escaped_value}
 use Rattle.usac_cfg.specs.declared.usac_config.UsacConfig.{UsacConfig}
 use Rattle.usac_cfg.specs.declared.element_config.ElementConfig.{ElementConfig}
 use Rattle.usac_cfg.specs.declared.faults.CfgFault.{CfgFault}
 use Rattle.usac_cfg.specs.declared.faults.CfgFault.TheVariants as faults
 use Rattle.usac_cfg.specs.Faults.{from_short}
 use Rattle.usac_cfg.specs.ElementConfig.{element}
-use Rattle.usac_cfg.specs.ConfigExt.{extensions}
+use Rattle.usac_cfg.specs.ConfigExtension.{extensions}
 use Rattle.usac_cfg.specs.UsacConfig.{IsWellFormed, is_rate, is_frame, is_channels, has_sbr}
-
--- a number of n bits
-abbrev pub number : ℕ → Layout ℕ CfgFault
-number n = wrapped from_short (bits n)
 
 -- which values are refused, and why
 abbrev pub rate_refused : ℕ → Option (ℕ → CfgFault)
@@ -39,29 +35,29 @@ elements_refused n = if nat_lt 63 n then Some (λ at. faults.TooManyElements at)
 
 -- usacSamplingFrequencyIndex
 abbrev pub rate : Layout ℕ CfgFault
-rate = checked rate_refused (number 5)
+rate = checked rate_refused (number from_short 5)
 
 -- usacSamplingFrequency, where the index says so; else 0 and no bits
 abbrev pub explicit : Bool → Layout ℕ CfgFault
-explicit true = checked zero_refused (number 24)
+explicit true = checked zero_refused (number from_short 24)
 explicit false = known 0
 
 -- coreSbrFrameLengthIndex
 abbrev pub frame : Layout ℕ CfgFault
-frame = checked frame_refused (number 3)
+frame = checked frame_refused (number from_short 3)
 
 -- channelConfigurationIndex
 abbrev pub channel : Layout ℕ CfgFault
-channel = checked channel_refused (number 5)
+channel = checked channel_refused (number from_short 5)
 
 -- UsacChannelConfig, where the index says so: numOutChannels, and bsOutputChannelPos for each; else none
 abbrev pub positions : Bool → Layout (List ℕ) CfgFault
-positions true = shaped (λ ps. (length ps, ps)) (λ x. x.1) (both (checked count_refused (wrapped from_short (escaped 5 8 16))) (λ n. times n (number 5)))
+positions true = shaped (λ ps. (length ps, ps)) (λ x. x.1) (both (checked count_refused (escaped_value from_short 5 8 16)) (λ n. times n (number from_short 5)))
 positions false = known []
 
 -- UsacDecoderConfig: numElements, less one, and each element
 abbrev pub elements : Bool → Layout (List ElementConfig) CfgFault
-elements sbr = shaped (λ es. (length es - 1, es)) (λ x. x.1) (both (checked elements_refused (wrapped from_short (escaped 4 8 16))) (λ n. times (n + 1) (element sbr)))
+elements sbr = shaped (λ es. (length es - 1, es)) (λ x. x.1) (both (checked elements_refused (escaped_value from_short 4 8 16)) (λ n. times (n + 1) (element sbr)))
 
 abbrev pub fields : Layout UsacConfig CfgFault
 fields = shaped
@@ -80,9 +76,4 @@ fields = shaped
 
 -- The well formed configurations, in these fields.
 abbrev pub usac_config : Layout UsacConfig CfgFault
-usac_config = record {
-  Fits = IsWellFormed;
-  spelling = fields.spelling;
-  Faults = fields.Faults;
-  read = fields.read;
-}
+usac_config = with_fits IsWellFormed fields

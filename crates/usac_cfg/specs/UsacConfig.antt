@@ -5,10 +5,10 @@ use Rattle.std.specs.List.{AllByRecursion}
 use Rattle.tables.specs.Tables.{rates, frames, channels as channel_table, at_index}
 use Rattle.tables.specs.declared.frame.FrameShape.{FrameShape}
 use Rattle.usac_cfg.specs.declared.usac_config.UsacConfig.{UsacConfig}
-use Rattle.usac_cfg.specs.declared.config_ext.ConfigExt.{ConfigExt}
+use Rattle.usac_cfg.specs.declared.config_extension.ConfigExt.{ConfigExt}
 use Rattle.usac_cfg.specs.declared.element_config.ElementConfig.{ElementConfig}
 use Rattle.usac_cfg.specs.declared.element_config.ElementConfig.TheVariants.{Single, Pair, Lfe, Ext}
-use Rattle.usac_cfg.specs.ConfigExt.{IsWellFormed as IsExtensionWellFormed}
+use Rattle.usac_cfg.specs.ConfigExtension.{IsWellFormed as IsExtensionWellFormed}
 use Rattle.usac_cfg.specs.ElementConfig.{IsWellFormed as IsElementWellFormed}
 
 -- usacSamplingFrequencyIndex names a frequency, or says that one follows.

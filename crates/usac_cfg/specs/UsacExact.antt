@@ -9,35 +9,28 @@ use Rattle.layout.specs.Exact.{IsExact}
 use Rattle.layout.proofs.Layouts.{both-exact, shaped-exact, wrapped-exact, checked-exact, where_set-exact, known-exact, times-exact, same-exact, some_is}
 use Rattle.layout.proofs.TaggedExact.{tagged-exact, as_variant-exact}
 use Rattle.layout.proofs.Every.{all_so}
-use Rattle.bit_core.specs.declared.faults.ReadFault.TheVariants as reads
-use Rattle.bit_core.proofs.PlainFacts.{bits-exact, bit-exact, octets-exact}
-use Rattle.esc_value.specs.EscapedExact.{escaped_exact}
+use Rattle.bit_core.proofs.PlainFacts.{number-exact, flag-exact, run_of_bytes-exact}
+use Rattle.esc_value.specs.EscapedExact.{escaped_value-exact}
 use Rattle.tables.specs.Tables.{rates, frames, channels as channel_table, at_index}
 use Rattle.sbr_mps.specs.declared.core_config.CoreConfig.{CoreConfig}
 use Rattle.sbr_mps.specs.declared.sbr.SbrConfig.{SbrConfig}
 use Rattle.sbr_mps.specs.declared.mps.Mps212.{Mps212}
 use Rattle.sbr_mps.specs.Exact.{core_config_exact, sbr_config_exact, mps212_exact}
-use Rattle.usac_cfg.specs.declared.ext_config.ExtConfig.{ExtConfig}
-use Rattle.usac_cfg.specs.declared.config_ext.ConfigExt.{ConfigExt}
+use Rattle.usac_cfg.specs.declared.extension_element.ExtConfig.{ExtConfig}
+use Rattle.usac_cfg.specs.declared.config_extension.ConfigExt.{ConfigExt}
 use Rattle.usac_cfg.specs.declared.element_config.ElementConfig.{ElementConfig}
 use Rattle.usac_cfg.specs.declared.element_config.ElementConfig.TheVariants.{Single, Pair, Lfe, Ext}
 use Rattle.usac_cfg.specs.declared.usac_config.UsacConfig.{UsacConfig}
 use Rattle.usac_cfg.specs.declared.faults.CfgFault.{CfgFault}
 use Rattle.usac_cfg.specs.declared.faults.CfgFault.TheVariants as faults
 use Rattle.usac_cfg.specs.Faults.{from_short, from_read}
-use Rattle.usac_cfg.specs.ExtConfig as ext
+use Rattle.usac_cfg.specs.ExtensionElement as ext
 use Rattle.usac_cfg.specs.ElementConfig as element
-use Rattle.usac_cfg.specs.ConfigExt as config
+use Rattle.usac_cfg.specs.ConfigExtension as config
 use Rattle.usac_cfg.specs.UsacConfig.{IsWellFormed, HasIndices, HasLists, IsExplicit, ArePositions, is_rate, is_frame, is_channels, has_sbr}
-use Rattle.usac_cfg.specs.Spelling.{number, rate_refused, zero_refused, frame_refused, channel_refused, count_refused, elements_refused, explicit, positions, elements, fields, usac_config}
+use Rattle.usac_cfg.specs.Spelling.{rate_refused, zero_refused, frame_refused, channel_refused, count_refused, elements_refused, explicit, positions, elements, fields, usac_config}
 
 -- ---- extension elements
-
-escaped-exact : (a b c : ℕ) → IsExact (ext.number a b c)
-escaped-exact a b c = wrapped-exact from_short _ (escaped_exact a b c)
-
-bytes-exact : (n : ℕ) → IsExact (ext.run_of_bytes n)
-bytes-exact n = wrapped-exact from_read _ (wrapped-exact reads.Short _ (octets-exact n))
 
 abbrev flag_and : Bool → Option ℕ → Bool × Option ℕ
 flag_and b o = (b, o)
@@ -51,11 +44,11 @@ default_there zero = refl
 default_there (suc n) = omega arith
 
 default_length-exact : IsExact ext.default_length
-default_length-exact = shaped-exact _ _ _ (both-exact _ _ (wrapped-exact from_short _ bit-exact) (λ there. where_set-exact there _ (escaped-exact 8 16 0))) (λ a h. default_back a.0 a.1 h.1.0) (λ n h. default_there n)
+default_length-exact = shaped-exact _ _ _ (both-exact _ _ (flag-exact from_short) (λ there. where_set-exact there _ (escaped_value-exact from_short 8 16 0))) (λ a h. default_back a.0 a.1 h.1.0) (λ n h. default_there n)
 
 ext_fields-exact : IsExact ext.fields
 ext_fields-exact = shaped-exact _ _ _ (
-    both-exact _ _ (escaped-exact 4 8 16) (λ _. both-exact _ _ (escaped-exact 4 8 16) (λ n. both-exact _ _ default_length-exact (λ _. both-exact _ _ (wrapped-exact from_short _ bit-exact) (λ _. bytes-exact n)))))
+    both-exact _ _ (escaped_value-exact from_short 4 8 16) (λ _. both-exact _ _ (escaped_value-exact from_short 4 8 16) (λ n. both-exact _ _ default_length-exact (λ _. both-exact _ _ (flag-exact from_short) (λ _. run_of_bytes-exact from_read n)))))
     (λ a h. rw h.1.1.1.1.0 refl) (λ b h. refl)
 
 default_fits : (n : ℕ) → n ≤ 65791 → ext.default_length.Fits n
@@ -77,8 +70,8 @@ ext_well v h = record {
   bytes = all_so _ _ (λ b fits. fits.0) v.bytes h.1.1.1.1.1;
 }
 
-pub ext_config_exact : IsExact ext.ext_config
-ext_config_exact = same-exact ext.fields ext.ext_config ext_fields-exact (λ v w. (ext_fits v w, refl)) (λ v h. (ext_well v h, refl)) (λ r. refl) (λ at f t bad. bad) (λ at f t bad. bad)
+pub extension_element_exact : IsExact ext.extension_element
+extension_element_exact = same-exact ext.fields ext.extension_element ext_fields-exact (λ v w. (ext_fits v w, refl)) (λ v h. (ext_well v h, refl)) (λ r. refl) (λ at f t bad. bad) (λ at f t bad. bad)
 
 -- ---- elements
 
@@ -116,7 +109,7 @@ body-exact : (b : Bool) (n : ℕ) → IsExact (element.body b n)
 body-exact b zero = wrapped-exact from_short _ (single-exact b)
 body-exact b (suc zero) = wrapped-exact from_short _ (pair-exact b)
 body-exact b (suc (suc zero)) = known-exact Lfe
-body-exact b (suc (suc (suc n))) = as_variant-exact _ _ _ ext_config_exact (λ a. refl) ext_back
+body-exact b (suc (suc (suc n))) = as_variant-exact _ _ _ extension_element_exact (λ a. refl) ext_back
 
 -- the type of what stands behind a type
 tie : (b : Bool) (n : ℕ) (v : ElementConfig) → n < 4 → (element.body b n).Fits v → element.kind_of v ≡ n
@@ -135,7 +128,7 @@ tie b (suc (suc (suc n))) Lfe lt fits = absurd fits
 tie b (suc (suc (suc n))) (Ext e) lt fits = omega arith
 
 element_fields-exact : (b : Bool) → IsExact (element.fields b)
-element_fields-exact b = tagged-exact element.kind_of _ _ (wrapped-exact from_short _ (bits-exact 2)) (body-exact b) (λ n v fits inner. tie b n v (let lt : n < 4 = fits.0 in lt) inner)
+element_fields-exact b = tagged-exact element.kind_of _ _ (number-exact from_short 2) (body-exact b) (λ n v fits inner. tie b n v (let lt : n < 4 = fits.0 in lt) inner)
 
 stereo_fits : (b : Bool) (n : ℕ) → element.IsStereo b n → (element.stereo b).Fits n
 stereo_fits true n h = (h, refl)
@@ -163,7 +156,7 @@ element_exact b = same-exact (element.fields b) (element.element b) (element_fie
 -- ---- extensions of a configuration
 
 config_fields-exact : IsExact config.fields
-config_fields-exact = shaped-exact _ _ _ (both-exact _ _ (escaped-exact 4 8 16) (λ _. both-exact _ _ (escaped-exact 4 8 16) (λ n. bytes-exact n))) (λ a h. rw h.1.1.0 refl) (λ b h. refl)
+config_fields-exact = shaped-exact _ _ _ (both-exact _ _ (escaped_value-exact from_short 4 8 16) (λ _. both-exact _ _ (escaped_value-exact from_short 4 8 16) (λ n. run_of_bytes-exact from_read n))) (λ a h. rw h.1.1.0 refl) (λ b h. refl)
 
 config_fits : (v : ConfigExt) → config.IsWellFormed v → config.fields.Fits v
 config_fits v w = (w.kind, (w.length, (refl, all_so _ _ (λ b lt. (lt, refl)) v.bytes w.bytes)))
@@ -171,11 +164,11 @@ config_fits v w = (w.kind, (w.length, (refl, all_so _ _ (λ b lt. (lt, refl)) v.
 config_well : (v : ConfigExt) → config.fields.Fits v → config.IsWellFormed v
 config_well v h = record { kind = h.0; length = h.1.0; bytes = all_so _ _ (λ b fits. fits.0) v.bytes h.1.1.1 }
 
-pub config_ext_exact : IsExact config.config_ext
-config_ext_exact = same-exact config.fields config.config_ext config_fields-exact (λ v w. (config_fits v w, refl)) (λ v h. (config_well v h, refl)) (λ r. refl) (λ at f t bad. bad) (λ at f t bad. bad)
+pub config_extension_exact : IsExact config.config_extension
+config_extension_exact = same-exact config.fields config.config_extension config_fields-exact (λ v w. (config_fits v w, refl)) (λ v h. (config_well v h, refl)) (λ r. refl) (λ at f t bad. bad) (λ at f t bad. bad)
 
 some_extensions-exact : IsExact config.some_extensions
-some_extensions-exact = shaped-exact _ _ _ (both-exact _ _ (escaped-exact 2 4 8) (λ n. times-exact (n + 1) _ config_ext_exact)) (λ a h. let k : length a.1 - 1 ≡ a.0 = omega (arith, h.1.0) in rw k refl) (λ b h. refl)
+some_extensions-exact = shaped-exact _ _ _ (both-exact _ _ (escaped_value-exact from_short 2 4 8) (λ n. times-exact (n + 1) _ config_extension_exact)) (λ a h. let k : length a.1 - 1 ≡ a.0 = omega (arith, h.1.0) in rw k refl) (λ b h. refl)
 
 abbrev flag_with : Bool → Option (List ConfigExt) → Bool × Option (List ConfigExt)
 flag_with b o = (b, o)
@@ -190,7 +183,7 @@ there_again [] = refl
 there_again (x ∷ xs) = refl
 
 extensions-exact : IsExact config.extensions
-extensions-exact = shaped-exact _ _ _ (both-exact _ _ (wrapped-exact from_short _ bit-exact) (λ there. where_set-exact there _ some_extensions-exact)) (λ a h. there_back a.0 a.1 h.1.0 h.1.1) (λ b h. there_again b)
+extensions-exact = shaped-exact _ _ _ (both-exact _ _ (flag-exact from_short) (λ there. where_set-exact there _ some_extensions-exact)) (λ a h. there_back a.0 a.1 h.1.0 h.1.1) (λ b h. there_again b)
 
 extensions_fit : (xs : List ConfigExt) → length xs ≤ 274 → AllByRecursion config.IsWellFormed xs → config.extensions.Fits xs
 extensions_fit [] few h = ((tt, refl), (refl, tt))
@@ -202,24 +195,21 @@ extensions_well (x ∷ xs) h = let less : length (x ∷ xs) - 1 ≤ 273 = h.1.1.
 
 -- ---- configurations
 
-number-exact : (n : ℕ) → IsExact (number n)
-number-exact n = wrapped-exact from_short _ (bits-exact n)
-
 explicit-exact : (b : Bool) → IsExact (explicit b)
-explicit-exact true = checked-exact zero_refused _ (number-exact 24)
+explicit-exact true = checked-exact zero_refused _ (number-exact from_short 24)
 explicit-exact false = known-exact 0
 
 positions-exact : (b : Bool) → IsExact (positions b)
-positions-exact true = shaped-exact _ _ _ (both-exact _ _ (checked-exact count_refused _ (escaped-exact 5 8 16)) (λ n. times-exact n (number 5) (number-exact 5))) (λ a h. rw h.1.0 refl) (λ b h. refl)
+positions-exact true = shaped-exact _ _ _ (both-exact _ _ (checked-exact count_refused _ (escaped_value-exact from_short 5 8 16)) (λ n. times-exact n (number from_short 5) (number-exact from_short 5))) (λ a h. rw h.1.0 refl) (λ b h. refl)
 positions-exact false = known-exact []
 
 elements-exact : (b : Bool) → IsExact (elements b)
-elements-exact b = shaped-exact _ _ _ (both-exact _ _ (checked-exact elements_refused _ (escaped-exact 4 8 16)) (λ n. times-exact (n + 1) _ (element_exact b))) (λ a h. let k : length a.1 - 1 ≡ a.0 = omega (arith, h.1.0) in rw k refl) (λ b h. refl)
+elements-exact b = shaped-exact _ _ _ (both-exact _ _ (checked-exact elements_refused _ (escaped_value-exact from_short 4 8 16)) (λ n. times-exact (n + 1) _ (element_exact b))) (λ a h. let k : length a.1 - 1 ≡ a.0 = omega (arith, h.1.0) in rw k refl) (λ b h. refl)
 
 fields-exact : IsExact fields
 fields-exact = shaped-exact _ _ _ (
-    both-exact _ _ (checked-exact rate_refused _ (number-exact 5)) (λ index. both-exact _ _ (explicit-exact (index == 31)) (λ _. both-exact _ _ (checked-exact frame_refused _ (number-exact 3)) (λ frame_index.
-    both-exact _ _ (checked-exact channel_refused _ (number-exact 5)) (λ channel_index. both-exact _ _ (positions-exact (channel_index == 0)) (λ _. both-exact _ _ (elements-exact (has_sbr frame_index)) (λ _. extensions-exact)))))))
+    both-exact _ _ (checked-exact rate_refused _ (number-exact from_short 5)) (λ index. both-exact _ _ (explicit-exact (index == 31)) (λ _. both-exact _ _ (checked-exact frame_refused _ (number-exact from_short 3)) (λ frame_index.
+    both-exact _ _ (checked-exact channel_refused _ (number-exact from_short 5)) (λ channel_index. both-exact _ _ (positions-exact (channel_index == 0)) (λ _. both-exact _ _ (elements-exact (has_sbr frame_index)) (λ _. extensions-exact)))))))
     (λ a h. refl) (λ b h. refl)
 
 -- a value that a test lets pass, or that it stops

@@ -1,14 +1,14 @@
 // Whether the parts of a configuration are well formed.
 ghost use Rattle.std.specs.Prelude.{◌≡◌, ◌<◌, ◌↔◌, IsTrue};
 ghost use Rattle.std.specs.List.{AllByRecursion};
-ghost use Rattle.usac_cfg.specs.ExtConfig.{IsWellFormed as IsExtWellFormed};
-ghost use Rattle.usac_cfg.specs.ConfigExt.{IsWellFormed as IsExtensionWellFormed};
+ghost use Rattle.usac_cfg.specs.ExtensionElement.{IsWellFormed as IsExtWellFormed};
+ghost use Rattle.usac_cfg.specs.ConfigExtension.{IsWellFormed as IsExtensionWellFormed};
 ghost use Rattle.usac_cfg.specs.ElementConfig.{IsWellFormed as IsElementWellFormed, HasSbr, HasMps, IsStereo};
 ghost use Rattle.usac_cfg.specs.UsacConfig.{IsExplicit, ArePositions};
 
-use crate::config_ext::ConfigExt;
+use crate::config_extension::ConfigExt;
 use crate::element_config::ElementConfig;
-use crate::ext_config::ExtConfig;
+use crate::extension_element::ExtConfig;
 use sbr_mps::{Mps212, SbrConfig};
 
 fn fits_ext(value: &ExtConfig) -> bool

@@ -1,9 +1,9 @@
 // Whether the parts of two configurations are equal.
 ghost use Rattle.std.specs.Prelude.{◌≡◌, ◌↔◌, IsTrue};
 
-use crate::config_ext::ConfigExt;
+use crate::config_extension::ConfigExt;
 use crate::element_config::ElementConfig;
-use crate::ext_config::ExtConfig;
+use crate::extension_element::ExtConfig;
 use sbr_mps::{CoreConfig, Mps212, Residual, SbrConfig, SbrFreq, SbrLimit};
 
 pub fn same_bytes(a: &[u8], b: &[u8]) -> bool

@@ -1,7 +1,7 @@
 // Copies of the lists of a configuration.
 ghost use Rattle.std.specs.Prelude.{◌≡◌, IfOk};
 
-use crate::config_ext::ConfigExt;
+use crate::config_extension::ConfigExt;
 use crate::element_config::ElementConfig;
 use crate::lists::{Elements, Extensions};
 use std::alloc::{AllocError, Global};

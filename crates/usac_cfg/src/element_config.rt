@@ -1,15 +1,3 @@
-//   usacElementType            2
-//   single channel element
-//     UsacCoreConfig
-//     SbrConfig                    where there is SBR
-//   channel pair element
-//     UsacCoreConfig
-//     SbrConfig                    where there is SBR
-//     stereoConfigIndex        2   where there is SBR
-//     Mps212Config                 where stereoConfigIndex is over 0
-//   LFE element: nothing
-//   extension element
-//     UsacExtElementConfig
 ghost use Rattle.std.specs.Prelude.{◌≡◌, ◌<◌, ◌++◌, nat_lt, is_some, OnOk, OnErr, IfOk};
 ghost use Rattle.layout.specs.Layout.{where_set, FitsOption, spelling_of, wrapped};
 ghost use Rattle.layout.specs.Reading.{Gives, GivesUnless};
@@ -20,7 +8,7 @@ ghost use Rattle.sbr_mps.specs.Mps212.{mps212, mps212_text};
 ghost use Rattle.usac_cfg.specs.Faults.{is_memory};
 ghost use Rattle.usac_cfg.specs.ElementConfig.{IsWellFormed, single, pair, stereo, element};
 
-use crate::ext_config::{ExtConfig, read_ext, write_ext};
+use crate::extension_element::{ExtConfig, read_extension_element, write_extension_element};
 use crate::faults::CfgFault;
 use bit_core::{BitReader, BitWriter, Short, put_small, small};
 use sbr_mps::{CoreConfig, Mps212, SbrConfig};
@@ -31,6 +19,21 @@ use std::alloc::{AllocError, Global};
 /// Well formed in a configuration where its parts are, where `sbr` is there exactly where the configuration has SBR, and
 /// for a pair besides: `stereo` is 0 where there is no SBR, and `mps` is there exactly where `stereo` is not 0, with a
 /// residual exactly where it is 2 or 3.
+///
+/// ```text
+/// usacElementType            2
+/// single channel element
+///   UsacCoreConfig
+///   SbrConfig                    where there is SBR
+/// channel pair element
+///   UsacCoreConfig
+///   SbrConfig                    where there is SBR
+///   stereoConfigIndex        2   where there is SBR
+///   Mps212Config                 where stereoConfigIndex is over 0
+/// LFE element: nothing
+/// extension element
+///   UsacExtElementConfig
+/// ```
 #[derive(Debug, Drop)]
 pub enum ElementConfig {
     /// A single channel element (UsacSingleChannelElementConfig).
@@ -143,6 +146,6 @@ pub fn read_element(
         0 => Ok(read_single(reader, has_sbr)?),
         1 => Ok(read_pair(reader, has_sbr)?),
         2 => Ok(ElementConfig::Lfe),
-        _ => Ok(ElementConfig::Ext(read_ext(alloc, reader)?)),
+        _ => Ok(ElementConfig::Ext(read_extension_element(alloc, reader)?)),
     }
 }

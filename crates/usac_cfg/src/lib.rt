@@ -6,10 +6,10 @@
 
 mod checking;
 mod comparing;
-mod config_ext;
+mod config_extension;
 mod copying;
 mod element_config;
-mod ext_config;
+mod extension_element;
 mod faults;
 mod format;
 pub mod laws;
@@ -20,9 +20,9 @@ mod tests;
 mod usac_config;
 mod writing;
 
-pub use config_ext::ConfigExt;
+pub use config_extension::ConfigExt;
 pub use element_config::ElementConfig;
-pub use ext_config::ExtConfig;
+pub use extension_element::ExtConfig;
 pub use faults::CfgFault;
 pub use lists::{Elements, Extensions, Positions};
 pub use sbr_mps::{CoreConfig, Mps212, Residual, SbrConfig, SbrFreq, SbrLimit};

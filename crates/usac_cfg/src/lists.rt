@@ -1,4 +1,4 @@
-use crate::config_ext::ConfigExt;
+use crate::config_extension::ConfigExt;
 use crate::element_config::ElementConfig;
 use bit_core::Items;
 

@@ -1,31 +1,17 @@
-// The fields of a configuration, in their order.
-//
-//   usacSamplingFrequencyIndex   5
-//   usacSamplingFrequency        24                       where the index is 31
-//   coreSbrFrameLengthIndex      3
-//   channelConfigurationIndex    5
-//   UsacChannelConfig                                     where the index is 0
-//     numOutChannels             escapedValue(5, 8, 16)
-//     bsOutputChannelPos         5                        for each channel
-//   UsacDecoderConfig
-//     numElements - 1            escapedValue(4, 8, 16)
-//     the configuration of each element
-//   usacConfigExtensionPresent   1
-//   UsacConfigExtension                                   where that is 1
-//     numConfigExtensions - 1    escapedValue(2, 4, 8)
-//     each extension
+// The fields of a configuration, read in their order.
 ghost use Rattle.std.specs.Prelude.{◌≡◌, ◌+◌, ◌≤◌, IfOk};
-ghost use Rattle.layout.specs.Layout.{wrapped, checked};
+ghost use Rattle.layout.specs.Layout.{checked};
 ghost use Rattle.layout.specs.Times.{times};
 ghost use Rattle.layout.specs.Reading.{GivesUnless};
-ghost use Rattle.esc_value.specs.Escaped.{escaped};
+ghost use Rattle.bit_core.specs.Plain.{number};
+ghost use Rattle.esc_value.specs.Escaped.{escaped_value};
 ghost use Rattle.usac_cfg.specs.Faults.{is_memory, from_short};
 ghost use Rattle.usac_cfg.specs.ElementConfig.{element};
 ghost use Rattle.usac_cfg.specs.UsacConfig.{has_sbr};
-ghost use Rattle.usac_cfg.specs.Spelling.{number, rate, explicit, frame, channel, count_refused, positions, elements_refused, elements, fields};
-ghost use Rattle.usac_cfg.specs.ConfigExt.{config_ext, some_extensions, extensions};
+ghost use Rattle.usac_cfg.specs.Spelling.{rate, explicit, frame, channel, count_refused, positions, elements_refused, elements, fields};
+ghost use Rattle.usac_cfg.specs.ConfigExtension.{config_extension, some_extensions, extensions};
 
-use crate::config_ext::read_extension;
+use crate::config_extension::read_config_extension;
 use crate::element_config::read_element;
 use crate::faults::CfgFault;
 use crate::lists::{Elements, Extensions, Positions};
@@ -60,7 +46,7 @@ fn read_explicit(reader: &mut BitReader, there: bool) -> Result<u32, CfgFault>
     Ok(rate)
 }
 
-fn read_frame(reader: &mut BitReader) -> Result<u8, CfgFault>
+fn read_frame_index(reader: &mut BitReader) -> Result<u8, CfgFault>
     ensures { GivesUnless is_memory frame reader.old reader.new result }
 {
     let at = reader.at();
@@ -71,7 +57,7 @@ fn read_frame(reader: &mut BitReader) -> Result<u8, CfgFault>
     Err(CfgFault::FrameReserved { at })
 }
 
-fn read_channel(reader: &mut BitReader) -> Result<u8, CfgFault>
+fn read_channel_index(reader: &mut BitReader) -> Result<u8, CfgFault>
     ensures { GivesUnless is_memory channel reader.old reader.new result }
 {
     let at = reader.at();
@@ -83,7 +69,7 @@ fn read_channel(reader: &mut BitReader) -> Result<u8, CfgFault>
 }
 
 fn read_count(reader: &mut BitReader) -> Result<u32, CfgFault>
-    ensures { GivesUnless is_memory (checked count_refused (wrapped from_short (escaped 5 8 16))) reader.old reader.new result }
+    ensures { GivesUnless is_memory (checked count_refused (escaped_value from_short 5 8 16)) reader.old reader.new result }
 {
     let at = reader.at();
     let count = Escaped::<5, 8, 16>::read(reader)?;
@@ -101,7 +87,7 @@ fn read_each_position(
     reader: &mut BitReader,
     count: u32,
 ) -> Result<Positions, CfgFault>
-    ensures { GivesUnless is_memory (times count (number 5)) reader.old reader.new result }
+    ensures { GivesUnless is_memory (times count (number from_short 5)) reader.old reader.new result }
 {
     let mut positions = Positions::new(alloc);
     for _ in 0..count {
@@ -123,7 +109,7 @@ fn read_positions(alloc: Global, reader: &mut BitReader, there: bool) -> Result<
 
 /// Reads one less than the number of elements.
 fn read_element_count(reader: &mut BitReader) -> Result<u32, CfgFault>
-    ensures gives { GivesUnless is_memory (checked elements_refused (wrapped from_short (escaped 4 8 16))) reader.old reader.new result }
+    ensures gives { GivesUnless is_memory (checked elements_refused (escaped_value from_short 4 8 16)) reader.old reader.new result }
     ensures few { IfOk result (λ n. n ≤ 63) }
 {
     let at = reader.at();
@@ -162,11 +148,11 @@ fn read_each_extension(
     reader: &mut BitReader,
     count: u32,
 ) -> Result<Extensions, CfgFault>
-    ensures { GivesUnless is_memory (times count config_ext) reader.old reader.new result }
+    ensures { GivesUnless is_memory (times count config_extension) reader.old reader.new result }
 {
     let mut extensions = Extensions::new(alloc);
     for _ in 0..count {
-        let item = read_extension(alloc, reader)?;
+        let item = read_config_extension(alloc, reader)?;
         extensions.push(item)?;
     }
     Ok(extensions)
@@ -205,8 +191,8 @@ pub fn read_fields(alloc: Global, reader: &mut BitReader) -> Result<UsacConfig, 
 {
     let rate_index = read_rate(reader)?;
     let rate_explicit = read_explicit(reader, rate_index == 31)?;
-    let frame_index = read_frame(reader)?;
-    let channel_index = read_channel(reader)?;
+    let frame_index = read_frame_index(reader)?;
+    let channel_index = read_channel_index(reader)?;
     let positions = read_positions(alloc, reader, channel_index == 0)?;
     let elements = read_elements(alloc, reader, goes_with_sbr(frame_index))?;
     let extensions = read_extensions(alloc, reader)?;

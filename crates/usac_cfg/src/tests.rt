@@ -6,6 +6,7 @@ use crate::{
     UsacConfig,
 };
 use bit_core::{BitReader, BitWriter};
+use std::alloc::Global;
 use std::process::Abort;
 use std::test::Fail;
 use vectors::{
@@ -306,5 +307,19 @@ fn cut_texts_are_short(rt: HostRuntime) -> Result<(), Fail> {
         assert_eq!(rt; place, Some(wanted), "the first {bits} bits");
         assert_eq!(rt; reader.at(), 0, "the first {bits} bits");
     }
+    Ok(())
+}
+
+// The example at `UsacConfig`.
+fn rate_length_and_end(alloc: Global) -> Result<(u32, u32, u64), CfgFault> {
+    let mut reader = BitReader::new(&[0x19, 0x08, 0x08]);
+    let config = UsacConfig::read(alloc, &mut reader)?;
+    Ok((config.rate(), config.frame_length(), reader.at()))
+}
+
+#[test]
+fn the_example_is_read(rt: HostRuntime) -> Result<(), Fail> {
+    let read = rate_length_and_end(rt.alloc())?;
+    assert_eq!(rt; read, (48_000, 1024, 22));
     Ok(())
 }

@@ -3,7 +3,7 @@ ghost use Rattle.usac_cfg.specs.UsacConfig.{id_of, first_id, leading_of};
 
 use crate::checking::{are_positions, fit_elements, fit_extensions, is_explicit};
 use crate::comparing::{same_bytes, same_elements, same_extensions};
-use crate::config_ext::ConfigExt;
+use crate::config_extension::ConfigExt;
 use crate::copying::{copy_elements, copy_extensions};
 use crate::element_config::ElementConfig;
 use crate::faults::CfgFault;
@@ -19,11 +19,31 @@ use tables::{channels_of, frame_of, rate_of};
 /// Well formed where every field fits its bits, no index is reserved, and what depends on an index is there exactly where
 /// it says so.
 ///
+/// An example, which is a test of this crate:
+///
 /// ```text
 /// let mut reader = BitReader::new(&[0x19, 0x08, 0x08]);
 /// let config = UsacConfig::read(alloc, &mut reader)?;
-/// config.frame_length()     // 1024
-/// reader.at()               // 22
+/// Ok((config.rate(), config.frame_length(), reader.at()))     // 48000, 1024, 22
+/// ```
+///
+/// The fields, in their order:
+///
+/// ```text
+/// usacSamplingFrequencyIndex   5
+/// usacSamplingFrequency        24                       where the index is 31
+/// coreSbrFrameLengthIndex      3
+/// channelConfigurationIndex    5
+/// UsacChannelConfig                                     where the index is 0
+///   numOutChannels             escapedValue(5, 8, 16)
+///   bsOutputChannelPos         5                        for each channel
+/// UsacDecoderConfig
+///   numElements - 1            escapedValue(4, 8, 16)
+///   the configuration of each element
+/// usacConfigExtensionPresent   1
+/// UsacConfigExtension                                   where that is 1
+///   numConfigExtensions - 1    escapedValue(2, 4, 8)
+///   each extension
 /// ```
 #[derive(Debug, Drop)]
 pub struct UsacConfig {

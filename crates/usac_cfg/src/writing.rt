@@ -8,12 +8,12 @@ ghost use Rattle.sbr_mps.specs.SbrConfig.{sbr_config};
 ghost use Rattle.sbr_mps.specs.Mps212.{mps212_text};
 ghost use Rattle.usac_cfg.specs.ElementConfig.{IsWellFormed as IsElementWellFormed, HasSbr, HasMps, IsStereo, stereo, element};
 ghost use Rattle.usac_cfg.specs.UsacConfig.{IsWellFormed, IsExplicit, ArePositions, has_sbr};
-ghost use Rattle.usac_cfg.specs.ConfigExt.{IsWellFormed as IsExtensionWellFormed, config_ext, extensions};
+ghost use Rattle.usac_cfg.specs.ConfigExtension.{IsWellFormed as IsExtensionWellFormed, config_extension, extensions};
 ghost use Rattle.usac_cfg.specs.Spelling.{explicit, positions, elements, fields};
 
-use crate::config_ext::{ConfigExt, write_extension};
+use crate::config_extension::{ConfigExt, write_config_extension};
 use crate::element_config::ElementConfig;
-use crate::ext_config::write_ext;
+use crate::extension_element::write_extension_element;
 use crate::reading::goes_with_sbr;
 use crate::usac_config::UsacConfig;
 use bit_core::{BitWriter, put_small};
@@ -89,7 +89,7 @@ fn write_element(
         ElementConfig::Lfe => writer.put(2, 2),
         ElementConfig::Ext(ext) => {
             writer.put(3, 2)?;
-            write_ext(ext, writer)
+            write_extension_element(ext, writer)
         }
     }
 }
@@ -160,11 +160,11 @@ fn write_elements(
 
 fn write_each_extension(values: &[ConfigExt], writer: &mut BitWriter) -> Result<(), AllocError>
     requires { AllByRecursion IsExtensionWellFormed values.now }
-    ensures ok { OnOk result (writer.new ≡ writer.old ++ flat_map config_ext.spelling values.now) }
+    ensures ok { OnOk result (writer.new ≡ writer.old ++ flat_map config_extension.spelling values.now) }
     ensures kept { Extends writer.old writer.new }
 {
     for value in values {
-        write_extension(value, writer)?;
+        write_config_extension(value, writer)?;
     }
     Ok(())
 }

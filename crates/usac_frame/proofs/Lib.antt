@@ -1,2 +1,1 @@
 pub mod PartLists
-pub mod UnitBits

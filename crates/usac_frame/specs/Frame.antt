@@ -5,12 +5,14 @@ use Rattle.layout.specs.Each.{FitEach, each_text, each}
 use Rattle.layout.specs.ToEnd.{rest}
 use Rattle.usac_cfg.specs.declared.element_config.ElementConfig.{ElementConfig}
 use Rattle.usac_cfg.specs.declared.element_config.ElementConfig.TheVariants.{Single, Pair, Lfe, Ext}
-use Rattle.usac_cfg.specs.declared.ext_config.ExtConfig.{ExtConfig}
+use Rattle.usac_cfg.specs.declared.extension_element.ExtConfig.{ExtConfig}
 use Rattle.usac_cfg.specs.declared.usac_config.UsacConfig.{UsacConfig}
 use Rattle.usac_frame.specs.declared.fault.FrameFault.{FrameFault}
 use Rattle.usac_frame.specs.declared.frame.Frame.{Frame}
 use Rattle.usac_frame.specs.declared.part.ExtPart.{ExtPart}
-use Rattle.usac_frame.specs.Part.{flag, IsPart, part, part_text}
+use Rattle.bit_core.specs.Plain.{flag}
+use Rattle.usac_frame.specs.Faults.{from_short}
+use Rattle.usac_frame.specs.Part.{IsPart, part, part_text}
 
 -- the extension elements before the first other element
 abbrev pub leading : List ElementConfig → List ExtConfig
@@ -42,7 +44,7 @@ abbrev pub frame : UsacConfig → Layout Frame FrameFault
 frame c = fitted (FitsConfig c)
     (λ f. (f.independent, (f.leading, f.rest)))
     (λ (independent, (leading, rest)). record { independent = independent; leading = leading; rest = rest })
-    (both flag (λ _. both (parts (leading_exts c)) (λ _. rest)))
+    (both (flag from_short) (λ _. both (parts (leading_exts c)) (λ _. rest)))
 
 -- The spelling of a frame. An access unit is the frame whose spelling its bits are.
 abbrev pub frame_text : UsacConfig → Frame → List Bool

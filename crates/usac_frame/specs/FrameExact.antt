@@ -10,7 +10,7 @@ use Rattle.layout.proofs.ToEnd.{both-to_end, fitted-to_end, rest-to_end}
 use Rattle.layout.proofs.Whole.{spells_once, decided_whole}
 use Rattle.usac_cfg.specs.declared.element_config.ElementConfig.{ElementConfig}
 use Rattle.usac_cfg.specs.declared.element_config.ElementConfig.TheVariants.{Single, Pair, Lfe, Ext}
-use Rattle.usac_cfg.specs.declared.ext_config.ExtConfig.{ExtConfig}
+use Rattle.usac_cfg.specs.declared.extension_element.ExtConfig.{ExtConfig}
 use Rattle.usac_cfg.specs.declared.usac_config.UsacConfig.{UsacConfig}
 use Rattle.usac_cfg.specs.ElementConfig.{IsWellFormed as IsElementWellFormed}
 use Rattle.usac_cfg.specs.UsacConfig.{has_sbr, leading_of}
@@ -24,13 +24,15 @@ use Rattle.usac_frame.specs.Frame.{FitsConfig, leading, leading_exts, parts_text
 use Rattle.usac_frame.specs.Units.{preroll_parts, payload_of}
 use Rattle.usac_frame.specs.Laws.{IsSpelledOnce, IsDecided, with_zeros, IsReadBack, HasPartOfEach, IsSplitAtPreroll, HasSmallPayload}
 use Rattle.std.specs.Prelude.{ℕ}
-use Rattle.usac_frame.specs.PartExact.{flag-exact, part_exact}
+use Rattle.bit_core.proofs.PlainFacts.{flag-exact}
+use Rattle.usac_frame.specs.Faults.{from_short}
+use Rattle.usac_frame.specs.PartExact.{part_exact}
 
 parts-exact : (exts : List ExtConfig) → IsExact (parts exts)
 parts-exact exts = each-exact part part_exact exts
 
 pub frame_exact : (c : UsacConfig) → IsExactToEnd (frame c)
-frame_exact c = fitted-to_end (FitsConfig c) _ _ _ (both-to_end _ _ flag-exact (λ _. both-to_end _ _ (parts-exact (leading_exts c)) (λ _. rest-to_end))) (λ a h. refl) (λ a h. h.1.0) (λ f fits. (((tt, refl), (fits, tt)), refl))
+frame_exact c = fitted-to_end (FitsConfig c) _ _ _ (both-to_end _ _ (flag-exact from_short) (λ _. both-to_end _ _ (parts-exact (leading_exts c)) (λ _. rest-to_end))) (λ a h. refl) (λ a h. h.1.0) (λ f fits. (((tt, refl), (fits, tt)), refl))
 
 -- ---- laws
 

@@ -1,26 +1,15 @@
 -- What a frame has of an extension element, field by field (ISO/IEC 23003-3, UsacExtElement).
 use Rattle.std.specs.Prelude.{◌≡◌, ℕ, ◌+◌, ◌-◌, ◌<◌, ◌≤◌, Bool, true, false, not, ◌&&◌, ◌==◌, nat_lt, List, length, Option, Some, None}
 use Rattle.std.specs.List.{AllByRecursion}
-use Rattle.layout.specs.Layout.{Layout, both, fitted, wrapped, known, where_set}
-use Rattle.bit_core.specs.declared.faults.ReadFault.TheVariants as reads
-use Rattle.bit_core.specs.Plain.{bits, bit, octets}
-use Rattle.usac_cfg.specs.declared.ext_config.ExtConfig.{ExtConfig}
+use Rattle.layout.specs.Layout.{Layout, both, fitted, known, where_set}
+use Rattle.bit_core.specs.Plain.{number, flag, run_of_bytes}
+use Rattle.usac_cfg.specs.declared.extension_element.ExtConfig.{ExtConfig}
 use Rattle.usac_frame.specs.declared.fault.FrameFault.{FrameFault}
 use Rattle.usac_frame.specs.declared.part.LengthForm.{LengthForm}
 use Rattle.usac_frame.specs.declared.part.LengthForm.TheVariants.{Default, Byte, Long}
 use Rattle.usac_frame.specs.declared.part.ExtPart.{ExtPart}
 use Rattle.usac_frame.specs.declared.part.ExtPart.TheVariants.{Absent, Present}
 use Rattle.usac_frame.specs.Faults.{from_short, from_read}
-
--- a number of n bits, one bit, and n bytes
-abbrev pub number : ℕ → Layout ℕ FrameFault
-number n = wrapped from_short (bits n)
-
-abbrev pub flag : Layout Bool FrameFault
-flag = wrapped from_short bit
-
-abbrev pub run_of_bytes : ℕ → Layout (List ℕ) FrameFault
-run_of_bytes n = wrapped from_read (wrapped reads.Short (octets n))
 
 -- The length in bytes is the configured one, or one that its form can say.
 abbrev pub HasLength : ℕ → LengthForm → ℕ → Type 0
@@ -30,7 +19,7 @@ HasLength default Long n = (253 ≤ n) × (n ≤ 65788)
 
 -- usacExtElementUseDefaultLength; where it is 0, usacExtElementPayloadLength; where that is 255, valueAdd
 abbrev pub coded_length : Layout (Bool × Option (ℕ × Option ℕ)) FrameFault
-coded_length = both flag (λ default. where_set (not default) (both (number 8) (λ byte. where_set (byte == 255) (number 16))))
+coded_length = both (flag from_short) (λ default. where_set (not default) (both (number from_short 8) (λ byte. where_set (byte == 255) (number from_short 16))))
 
 -- what is coded of a length
 abbrev pub coded : LengthForm × ℕ → Bool × Option (ℕ × Option ℕ)
@@ -59,16 +48,16 @@ AreMarks false start stop = (start ≡ true) × (stop ≡ true)
 
 -- usacExtElementStart, usacExtElementStop
 abbrev pub marks : Bool → Layout (Bool × Bool) FrameFault
-marks true = both flag (λ _. flag)
+marks true = both (flag from_short) (λ _. flag from_short)
 marks false = known (true, true)
 
 -- what stands behind usacExtElementPresent, where that is 1
 abbrev pub body : ExtConfig → Layout ((LengthForm × ℕ) × ((Bool × Bool) × List ℕ)) FrameFault
-body e = both (part_length e.default_length) (λ l. both (marks (has_marks e l.1)) (λ _. run_of_bytes l.1))
+body e = both (part_length e.default_length) (λ l. both (marks (has_marks e l.1)) (λ _. run_of_bytes from_read l.1))
 
 -- usacExtElementPresent, and the body
 abbrev pub part_fields : ExtConfig → Layout (Bool × Option ((LengthForm × ℕ) × ((Bool × Bool) × List ℕ))) FrameFault
-part_fields e = both flag (λ there. where_set there (body e))
+part_fields e = both (flag from_short) (λ there. where_set there (body e))
 
 abbrev pub fields_of : ExtPart → Bool × Option ((LengthForm × ℕ) × ((Bool × Bool) × List ℕ))
 fields_of Absent = (false, None)

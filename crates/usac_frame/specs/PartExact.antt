@@ -3,31 +3,21 @@ use Rattle.std.proofs.Common.{◌≡◌, ℕ, ◌+◌, ◌-◌, ◌<◌, ◌≤�
 use Rattle.std.specs.Prelude.{not, ◌==◌}
 use Rattle.std.proofs.lemmas.Bool.{cases_eq, ne_eqb, eqb-true}
 use Rattle.layout.specs.Exact.{IsExact}
-use Rattle.layout.proofs.Layouts.{both-exact, fitted-exact, wrapped-exact, where_set-exact, known-exact}
+use Rattle.layout.proofs.Layouts.{both-exact, fitted-exact, where_set-exact, known-exact}
 use Rattle.layout.proofs.Every.{all_so}
-use Rattle.bit_core.specs.declared.faults.ReadFault.TheVariants as reads
-use Rattle.bit_core.proofs.PlainFacts.{bits-exact, bit-exact, octets-exact}
-use Rattle.usac_cfg.specs.declared.ext_config.ExtConfig.{ExtConfig}
+use Rattle.bit_core.proofs.PlainFacts.{number-exact, flag-exact, run_of_bytes-exact}
+use Rattle.usac_cfg.specs.declared.extension_element.ExtConfig.{ExtConfig}
 use Rattle.usac_frame.specs.declared.part.LengthForm.{LengthForm}
 use Rattle.usac_frame.specs.declared.part.LengthForm.TheVariants.{Default, Byte, Long}
 use Rattle.usac_frame.specs.declared.part.ExtPart.{ExtPart}
 use Rattle.usac_frame.specs.declared.part.ExtPart.TheVariants.{Absent, Present}
 use Rattle.usac_frame.specs.Faults.{from_short, from_read}
-use Rattle.usac_frame.specs.Part.{number, flag, run_of_bytes, HasLength, coded_length, coded, decoded, part_length, has_marks, AreMarks, marks, part_fields, fields_of, part_of, IsPart, part}
-
-number-exact : (n : ℕ) → IsExact (number n)
-number-exact n = wrapped-exact from_short _ (bits-exact n)
-
-pub flag-exact : IsExact flag
-flag-exact = wrapped-exact from_short _ bit-exact
-
-bytes-exact : (n : ℕ) → IsExact (run_of_bytes n)
-bytes-exact n = wrapped-exact from_read _ (wrapped-exact (λ s. reads.Short s) _ (octets-exact n))
+use Rattle.usac_frame.specs.Part.{HasLength, coded_length, coded, decoded, part_length, has_marks, AreMarks, marks, part_fields, fields_of, part_of, IsPart, part}
 
 -- ---- the length
 
 coded_length-exact : IsExact coded_length
-coded_length-exact = both-exact _ _ flag-exact (λ default. where_set-exact (not default) _ (both-exact _ _ (number-exact 8) (λ byte. where_set-exact (byte == 255) _ (number-exact 16))))
+coded_length-exact = both-exact _ _ (flag-exact from_short) (λ default. where_set-exact (not default) _ (both-exact _ _ (number-exact from_short 8) (λ byte. where_set-exact (byte == 255) _ (number-exact from_short 16))))
 
 abbrev of_flag : Option (ℕ × Option ℕ) → Bool → Bool × Option (ℕ × Option ℕ)
 of_flag o b = (b, o)
@@ -80,7 +70,7 @@ part_length-exact default = fitted-exact _ coded (decoded default) coded_length 
 -- ---- start and stop
 
 marks-exact : (b : Bool) → IsExact (marks b)
-marks-exact true = both-exact _ _ flag-exact (λ _. flag-exact)
+marks-exact true = both-exact _ _ (flag-exact from_short) (λ _. flag-exact from_short)
 marks-exact false = known-exact (true, true)
 
 abbrev two : Bool → Bool → Bool × Bool
@@ -97,7 +87,7 @@ marks_are false s t fits = (ap (λ (x : Bool × Bool). x.0) fits, ap (λ (x : Bo
 -- ---- the part
 
 part_fields-exact : (e : ExtConfig) → IsExact (part_fields e)
-part_fields-exact e = both-exact _ _ flag-exact (λ there. where_set-exact there _ (both-exact _ _ (part_length-exact e.default_length) (λ l. both-exact _ _ (marks-exact (has_marks e l.1)) (λ _. bytes-exact l.1))))
+part_fields-exact e = both-exact _ _ (flag-exact from_short) (λ there. where_set-exact there _ (both-exact _ _ (part_length-exact e.default_length) (λ l. both-exact _ _ (marks-exact (has_marks e l.1)) (λ _. run_of_bytes-exact from_read l.1))))
 
 abbrev Body : Type 0
 Body = (LengthForm × ℕ) × ((Bool × Bool) × List ℕ)

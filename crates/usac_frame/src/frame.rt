@@ -23,6 +23,19 @@ use usac_cfg::UsacConfig;
 /// frame.leading         // one part, which is Absent
 /// frame.rest            // 100000
 /// ```
+///
+/// ```text
+/// usacIndependencyFlag               1
+/// for each leading extension element:
+///   usacExtElementPresent            1    where this is 0, the part ends
+///   usacExtElementUseDefaultLength   1
+///   usacExtElementPayloadLength      8    where that is 0; 255: the 16 bits behind it say the length
+///                                    16   where these are 255: the length, less 253
+///   usacExtElementStart              1    where the length is over 0 and usacExtElementPayloadFrag is 1
+///   usacExtElementStop               1    there too
+///   usacExtElementSegmentData        8    for each byte of the length
+/// the rest                                all bits to the end
+/// ```
 #[derive(Debug, Drop)]
 pub struct Frame {
     /// usacIndependencyFlag: the frame can be decoded without the frames before it.

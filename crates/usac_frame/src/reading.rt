@@ -1,13 +1,4 @@
-//   usacIndependencyFlag               1
-//   for each leading extension element:
-//     usacExtElementPresent            1    where this is 0, the part ends
-//     usacExtElementUseDefaultLength   1
-//     usacExtElementPayloadLength      8    where that is 0; 255: the 16 bits behind it say the length
-//                                      16   where these are 255: the length, less 253
-//     usacExtElementStart              1    where the length is over 0 and usacExtElementPayloadFrag is 1
-//     usacExtElementStop               1    there too
-//     usacExtElementSegmentData        8    for each byte of the length
-//   the rest                                all bits to the end
+// The fields of a frame, read in their order.
 ghost use Rattle.std.specs.Prelude.{◌≡◌};
 ghost use Rattle.layout.specs.Reading.{GivesUnless};
 ghost use Rattle.usac_frame.specs.Faults.{is_memory};

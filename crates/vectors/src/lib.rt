@@ -23,7 +23,7 @@ pub use numbers::{
 pub use prerolls::{
     CARRIED, CarriedRow, PREROLLS, PreRollRow, SHORT_PREROLLS, UNCARRIED, UncarriedRow,
 };
-pub use streams::{EIGHT_FRAMES, PLAIN};
+pub use streams::EIGHT_FRAMES;
 
 #[cfg(test)]
 mod tests;

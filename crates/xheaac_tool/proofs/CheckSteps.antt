@@ -13,14 +13,14 @@ use Rattle.usac_frame.specs.FrameFound.{frame_of_is}
 use Rattle.usac_frame.specs.Units.{is_immediate}
 use Rattle.preroll.specs.declared.fault.CarryFault.{CarryFault}
 use Rattle.preroll.specs.declared.fault.CarryFault.TheVariants as carries
-use Rattle.preroll.specs.Faults.{is_want}
+use Rattle.preroll.specs.Faults.{is_carry_memory}
 use Rattle.preroll.specs.Carried.{IsFirst}
 use Rattle.outside.specs.declared.fault.DeviceFault.{DeviceFault}
 use Rattle.outside.specs.declared.fault.DeviceFault.TheVariants as devices
 use Rattle.core_iface.specs.Answering.{Meaning}
 use Rattle.tool_text.specs.declared.refusal.Refusal.{Refusal}
 use Rattle.tool_text.specs.Faults.{refusal_of_carry}
-use Rattle.tool_text.specs.CheckLine.{check_line}
+use Rattle.tool_text.specs.CheckText.{check_line}
 use Rattle.au_stream.specs.declared.event.Event.{Event}
 use Rattle.au_stream.specs.Events.{IsEvent}
 use Rattle.au_stream.specs.Frames.{Frame, config_of}
@@ -71,7 +71,7 @@ counts_more c now before f event config g e same is made h =
 -- ---- what is judged
 
 -- a fault that is a refusal is not out of memory
-pub is_judgement : (number : ℕ) (e : CarryFault) (r : Refusal) → refusal_of_carry number e ≡ Some r → is_want e ≡ false
+pub is_judgement : (number : ℕ) (e : CarryFault) (r : Refusal) → refusal_of_carry number e ≡ Some r → is_carry_memory e ≡ false
 is_judgement number carries.NotImmediate r is = refl
 is_judgement number carries.Split r is = refl
 is_judgement number (carries.BadPreroll at) r is = refl
@@ -82,7 +82,7 @@ is_judgement number (carries.Nested k) r is = refl
 is_judgement number carries.FirstDependent r is = refl
 is_judgement number (carries.Memory a) r is = absurd cc
 
-pub breaks_rule : (number : ℕ) (c : UsacConfig) (g : UsacFrame) (e : CarryFault) (end : FrameEnd) → (is_want e ≡ false → IsFirst c g e) → EndsBy number e end → BreaksRule number c g end
+pub breaks_rule : (number : ℕ) (c : UsacConfig) (g : UsacFrame) (e : CarryFault) (end : FrameEnd) → (is_carry_memory e ≡ false → IsFirst c g e) → EndsBy number e end → BreaksRule number c g end
 breaks_rule number c g e (ends.Refused r) first ended = (e, first (is_judgement number e r ended), ended)
 breaks_rule number c g e ends.WriteFault first ended = absurd ended
 breaks_rule number c g e ends.CoreFault first ended = absurd ended

@@ -10,7 +10,7 @@ use Rattle.latm.specs.declared.mux_config.MuxConfig.{MuxConfig}
 use Rattle.core_iface.specs.Answering.{Meaning}
 use Rattle.outside.specs.declared.fault.DeviceFault.{DeviceFault}
 use Rattle.outside.specs.declared.fault.DeviceFault.TheVariants as devices
-use Rattle.tool_text.specs.MuxLine.{lines_of_mux}
+use Rattle.tool_text.specs.MuxText.{lines_of_mux}
 use Rattle.layout.specs.Text.{bits_of}
 use Rattle.usac_cfg.specs.declared.usac_config.UsacConfig.{UsacConfig}
 use Rattle.usac_frame.specs.declared.frame.Frame.{Frame as UsacFrame}
@@ -26,7 +26,7 @@ use Rattle.preroll.specs.declared.preroll.PreRoll.{PreRoll}
 use Rattle.preroll.specs.PreRoll.{IsWellFormed, preroll_text, PreRollFaults}
 use Rattle.preroll.specs.Payload.{fault_of}
 use Rattle.preroll.specs.PayloadFound.{preroll_of_is, fault_of_is}
-use Rattle.tool_text.specs.PreRollLines.{bad_line, lines_of_preroll}
+use Rattle.tool_text.specs.PreRollText.{bad_line, lines_of_preroll}
 use Rattle.tool_text.specs.declared.refusal.Refusal.{Refusal}
 use Rattle.tool_text.specs.declared.refusal.Place.TheVariants as places
 use Rattle.tool_text.specs.declared.refusal.Reason.TheVariants as reasons

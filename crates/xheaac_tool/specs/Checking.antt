@@ -9,7 +9,7 @@ use Rattle.preroll.specs.declared.fault.CarryFault.{CarryFault}
 use Rattle.preroll.specs.Carried.{IsFirst}
 use Rattle.tool_text.specs.declared.refusal.Refusal.{Refusal}
 use Rattle.tool_text.specs.Faults.{refusal_of_carry}
-use Rattle.tool_text.specs.CheckLine.{check_line}
+use Rattle.tool_text.specs.CheckText.{check_line}
 use Rattle.au_stream.specs.Frames.{Frame, config_of}
 use Rattle.au_stream.specs.Segments.{Segment, AreSegments}
 use Rattle.commands.specs.Commands.{Command, opens_silently, RefusesNoEnd, feeds_none}

@@ -10,9 +10,9 @@ use Rattle.preroll.specs.declared.fault.PreFault.{PreFault}
 use Rattle.preroll.specs.declared.fault.PreFault.TheVariants as faults
 use Rattle.preroll.specs.declared.preroll.PreRoll.{PreRoll}
 use Rattle.preroll.specs.Payload.{preroll_of, fault_of}
-use Rattle.tool_text.specs.MuxLine.{lines_of_mux}
-use Rattle.tool_text.specs.FrameLine.{frame_line}
-use Rattle.tool_text.specs.PreRollLines.{bad_line, lines_of_preroll}
+use Rattle.tool_text.specs.MuxText.{lines_of_mux}
+use Rattle.tool_text.specs.FrameText.{frame_line}
+use Rattle.tool_text.specs.PreRollText.{bad_line, lines_of_preroll}
 use Rattle.au_stream.specs.Frames.{Frame, config_of}
 use Rattle.commands.specs.Commands.{Command, RefusesNoEnd, ClosesSilently, feeds_none}
 use Rattle.xheaac_tool.specs.Output.{IsTooShort}

@@ -7,7 +7,7 @@ ghost use Rattle.usac_cfg.specs.UsacConfig.{IsWellFormed as IsConfig};
 ghost use Rattle.outside.specs.Answers.{has_failed, IsFailed};
 ghost use Rattle.usac_frame.specs.Frame.{FitsConfig};
 ghost use Rattle.usac_frame.specs.Units.{first_payload};
-ghost use Rattle.tool_text.specs.FrameLine.{frame_line};
+ghost use Rattle.tool_text.specs.FrameText.{frame_line};
 ghost use Rattle.commands.specs.Handing.{WrotePart};
 ghost use Rattle.xheaac_tool.specs.Showing.{joined, mux_where, payload_lines, preroll_where, frame_text};
 

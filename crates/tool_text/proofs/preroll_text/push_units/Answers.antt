@@ -1,5 +1,5 @@
 use Rattle.std.proofs.Common.{[], ◌∷◌, refl, ◌∙◌}
-use Rattle.tool_text.specs.PreRollLines.{unit_line, units_from}
+use Rattle.tool_text.specs.PreRollText.{unit_line, units_from}
 use Rattle.tool_text.proofs.Numbered.{one_more, at_end}
 use Rattle.tool_text.proofs.preroll_text.push_units.Goals as goal
 

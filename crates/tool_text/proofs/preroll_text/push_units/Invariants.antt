@@ -1,5 +1,5 @@
 use Rattle.std.proofs.Common.{◌≡◌, ◌++◌, drop}
-use Rattle.tool_text.specs.PreRollLines.{units_from}
+use Rattle.tool_text.specs.PreRollText.{units_from}
 use Rattle.tool_text.proofs.preroll_text.push_units.Given as goal
 
 abbrev pub invariant-loop-k : goal.invariant-loop-k

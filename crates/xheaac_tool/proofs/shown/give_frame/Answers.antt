@@ -1,7 +1,7 @@
 use Rattle.std.proofs.Common.{length, arith}
 use Rattle.std.proofs.lemmas.Result.{on_ok_weaker, on_err_weaker, err_from_is_err_and}
 use Rattle.usac_frame.specs.FrameExact.{payload_small}
-use Rattle.tool_text.specs.FrameLine.{frame_line}
+use Rattle.tool_text.specs.FrameText.{frame_line}
 use Rattle.xheaac_tool.specs.Showing.{preroll_where}
 use Rattle.xheaac_tool.proofs.Lines.{both_all, part_behind, part_in_front}
 use Rattle.xheaac_tool.proofs.shown.give_frame.Goals as goal
