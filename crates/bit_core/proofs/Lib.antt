@@ -8,3 +8,4 @@ pub mod ByteLemmas
 pub mod SliceLemmas
 pub mod PlainFacts
 pub mod Writing
+pub mod Across

@@ -3,7 +3,7 @@ ghost use Rattle.layout.specs.Text.{bits_of, value_after};
 ghost use Rattle.bit_core.specs.Trim.{trimmed};
 ghost use Rattle.bit_core.specs.Words.{zeros, spread, text_of, Holds, IsPacked};
 
-use crate::words::{MOST_BITS, cut_words, in_range, push_from, push_word};
+use crate::words::{MOST_BITS, cut_words, in_range, push_word, words_at};
 use std::alloc::{AllocError, Global};
 use std::marker::Model;
 
@@ -74,8 +74,7 @@ impl Bits {
         requires within { at + n ≤ 8 * length bytes.now }
         ensures { IfOk result (λ bits. bits ≡ take n (drop at (bits_of bytes.now))) }
     {
-        let mut words = Vec::with_capacity(alloc, n.div_ceil(64) as usize)?;
-        push_from(&mut words, 0, bytes, at, n)?;
+        let words = words_at(alloc, bytes, at, n)?;
         Ok(Bits { words, len: n })
     }
 

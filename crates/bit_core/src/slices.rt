@@ -1,5 +1,5 @@
 // Numbers, words and bytes at any place of a slice.
-ghost use Rattle.std.specs.Prelude.{◌≡◌, ◌+◌, ◌*◌, ◌^◌, ◌<◌, ◌≤◌, length, get_or, take, drop, IfOk, ℕ};
+ghost use Rattle.std.specs.Prelude.{◌≡◌, ◌+◌, ◌*◌, ◌^◌, ◌<◌, ◌≤◌, ◌/◌, ◌++◌, length, get_or, take, drop, IfOk, ℕ};
 ghost use Rattle.layout.specs.Text.{num, bits_of};
 ghost use Rattle.bit_core.specs.Words.{ShowsFrom};
 
@@ -23,6 +23,24 @@ fn last_bytes(bytes: &[u8], at: usize) -> u64
     word
 }
 
+/// The 64 bits from a byte on, which all stand there.
+#[inline(always)]
+fn eight_bytes(bytes: &[u8], at: usize) -> u64
+    requires { at + 8 ≤ length bytes.now }
+    ensures { ShowsFrom 64 result (bits_of bytes.now) (8 * at) }
+{
+    u64::from_be_bytes([
+        bytes[at],
+        bytes[at + 1],
+        bytes[at + 2],
+        bytes[at + 3],
+        bytes[at + 4],
+        bytes[at + 5],
+        bytes[at + 6],
+        bytes[at + 7],
+    ])
+}
+
 /// The 64 bits from a byte on, 0 where there is none.
 #[inline(always)]
 fn window(bytes: &[u8], at: usize) -> u64
@@ -30,16 +48,7 @@ fn window(bytes: &[u8], at: usize) -> u64
     ensures { ShowsFrom 64 result (bits_of bytes.now) (8 * at) }
 {
     if bytes.len() - at >= 8 {
-        u64::from_be_bytes([
-            bytes[at],
-            bytes[at + 1],
-            bytes[at + 2],
-            bytes[at + 3],
-            bytes[at + 4],
-            bytes[at + 5],
-            bytes[at + 6],
-            bytes[at + 7],
-        ])
+        eight_bytes(bytes, at)
     } else {
         last_bytes(bytes, at)
     }
@@ -63,6 +72,18 @@ pub fn peek(bytes: &[u8], at: u64) -> u64
     (word << skipped) | (u64::from(next) >> (8 - skipped))
 }
 
+/// The 64 bits behind the first bits of a byte, up to seven of them, where nine bytes stand from that byte on. It tests
+/// nothing, and serves loops.
+#[inline(always)]
+pub fn word_across(bytes: &[u8], byte: usize, skipped: u32) -> u64
+    requires within { byte + 8 < length bytes.now }
+    requires few { skipped < 8 }
+    ensures { ShowsFrom 64 result (bits_of bytes.now) (8 * byte + skipped) }
+{
+    let word = eight_bytes(bytes, byte);
+    (word << skipped) | (u64::from(bytes[byte + 8]) >> (8 - skipped))
+}
+
 /// The number that n bits spell.
 #[inline(always)]
 pub fn number_at(bytes: &[u8], at: u64, n: u32) -> u32
@@ -76,6 +97,29 @@ pub fn number_at(bytes: &[u8], at: u64, n: u32) -> u32
     (word >> 1 >> (63 - n)) as u32
 }
 
+/// The byte behind the first bits of a byte, up to seven of them.
+#[inline(always)]
+fn byte_across(first: u8, second: u8, skipped: u32) -> u8
+    requires some { 0 < skipped }
+    requires within { skipped < 8 }
+    ensures { num 8 result ≡ take 8 (drop skipped (num 8 first ++ num 8 second)) }
+{
+    (first << skipped) | (second >> (8 - skipped))
+}
+
+/// Writes the bytes that begin behind the first bits of a byte.
+fn put_across(bytes: &[u8], skipped: u32, out: &mut [u8])
+    requires some { 0 < skipped }
+    requires within { skipped < 8 }
+    requires more { length bytes.now ≡ length out.old + 1 }
+    ensures bytes { (i : ℕ) → get_or out.new i 0 < 256 }
+    ensures same { bits_of out.new ≡ take (8 * length out.new) (drop skipped (bits_of bytes.now)) }
+{
+    for i in 0..out.len() {
+        out[i] = byte_across(bytes[i], bytes[i + 1], skipped);
+    }
+}
+
 /// Copies n bytes that begin at any bit.
 pub fn bytes_at(alloc: Global, bytes: &[u8], at: u64, n: u64) -> Result<Vec<u8>, AllocError>
     requires small { length bytes.now ≤ 16777216 }
@@ -84,13 +128,15 @@ pub fn bytes_at(alloc: Global, bytes: &[u8], at: u64, n: u64) -> Result<Vec<u8>,
     ensures bytes { IfOk result (λ copied. (i : ℕ) → get_or copied.items i 0 < 256) }
     ensures same { IfOk result (λ copied. bits_of copied.items ≡ take (8 * n) (drop at (bits_of bytes.now))) }
 {
-    let mut copied = Vec::with_capacity(alloc, n as usize)?;
-    let whole = n / 8;
-    for i in 0..whole {
-        let word = peek(bytes, at + 64 * i).to_be_bytes();
-        copied.extend_from_slice(&word)?;
+    let from = (at / 8) as usize;
+    let skipped = (at % 8) as u32;
+    let many = n as usize;
+    if skipped == 0 {
+        let copied = Vec::from_slice(alloc, &bytes[from..from + many])?;
+        return Ok(copied);
     }
-    let last = peek(bytes, at + 64 * whole).to_be_bytes();
-    copied.extend_from_slice(&last[..(n % 8) as usize])?;
+    let mut copied = Vec::with_capacity(alloc, many)?;
+    copied.resize(many, 0)?;
+    put_across(&bytes[from..from + many + 1], skipped, &mut copied);
     Ok(copied)
 }

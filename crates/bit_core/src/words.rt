@@ -1,9 +1,9 @@
 // Bits packed into words of 64, the first bit highest, with 0 in each bit of the last word that is not used.
-ghost use Rattle.std.specs.Prelude.{◌≡◌, ◌+◌, ◌-◌, ◌*◌, ◌<◌, ◌≤◌, ◌++◌, ℕ, length, take, drop, slice_index, IfOk, OnOk, OnErr};
+ghost use Rattle.std.specs.Prelude.{◌≡◌, ◌+◌, ◌-◌, ◌*◌, ◌/◌, ◌<◌, ◌≤◌, ◌++◌, ℕ, length, take, drop, slice_index, IfOk, OnOk, OnErr};
 ghost use Rattle.layout.specs.Text.{num, bits_of, pad};
 ghost use Rattle.bit_core.specs.Words.{zeros, spread, text_of, IsPacked, Holds, Reaches, IsFront};
 
-use crate::slices::peek;
+use crate::slices::{peek, word_across};
 use std::alloc::{AllocError, Global};
 
 /// The most bits that a list or a writer holds, 2^62.
@@ -94,6 +94,40 @@ pub fn push_from(
         push_word(words, len + 64 * whole, last, rest)?;
     }
     Ok(())
+}
+
+/// Writes n bits of bytes, from a bit on, as words.
+fn put_words(bytes: &[u8], at: u64, n: u64, out: &mut [u64])
+    requires some { 0 < n }
+    requires short { 8 * length bytes.now ≤ 4611686018427387904 }
+    requires within { at + n ≤ 8 * length bytes.now }
+    requires count { length out.old ≡ (n + 63) / 64 }
+    ensures { Holds out.new n (take n (drop at (bits_of bytes.now))) }
+{
+    let from = (at / 8) as usize;
+    let skipped = (at % 8) as u32;
+    let last = ((n - 1) / 64) as usize;
+    for i in 0..last {
+        out[i] = word_across(bytes, from + 8 * i, skipped);
+    }
+    let passed = 64 * last as u64;
+    out[last] = front_of(peek(bytes, at + passed), (n - passed) as u32);
+}
+
+/// The words that hold n bits of bytes, from a bit on.
+pub fn words_at(alloc: Global, bytes: &[u8], at: u64, n: u64) -> Result<Vec<u64>, AllocError>
+    requires short { 8 * length bytes.now ≤ 4611686018427387904 }
+    requires within { at + n ≤ 8 * length bytes.now }
+    ensures { IfOk result (λ words. Holds words.items n (take n (drop at (bits_of bytes.now)))) }
+{
+    if n == 0 {
+        return Ok(Vec::new(alloc));
+    }
+    let count = n.div_ceil(64) as usize;
+    let mut words = Vec::with_capacity(alloc, count)?;
+    words.resize(count, 0)?;
+    put_words(bytes, at, n, &mut words);
+    Ok(words)
 }
 
 /// Puts the n bits that other words hold behind the bits that the words hold. A call that is refused may leave some of them.

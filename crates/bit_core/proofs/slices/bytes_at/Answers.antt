@@ -1,14 +1,27 @@
-use Rattle.std.proofs.Common.{arith}
-use Rattle.bit_core.proofs.SliceLemmas.{copied_no_bytes, copied_word, copied_last}
+use Rattle.std.proofs.Common.{◌≡◌, ℕ, ◌+◌, ◌-◌, ◌/◌, length, take, drop, arith, ap, ◌∙◌}
+use Rattle.std.proofs.lemmas.List.{take_at}
+use Rattle.layout.specs.Text.{bits_of}
+use Rattle.bit_core.proofs.Across.{whole_part, part_across}
 use Rattle.bit_core.proofs.slices.bytes_at.Goals as goal
 
-pub loop-i-init : goal.loop-i-init
-loop-i-init c = copied_no_bytes _ _ _ c.in_ok-copied.ensures.items
+pub returns-then-skipped-eq0-clause-same : goal.returns-then-skipped-eq0-clause-same
+returns-then-skipped-eq0-clause-same c =
+    let from = c.args.at / 8 in
+    let k : from + c.args.n - from ≡ c.args.n = omega arith in
+    ap bits_of (c.in_ok-copied.ensures.items ∙ ap (λ (m : ℕ). take m (drop from c.args.bytes.now)) k) ∙ whole_part c.args.bytes.now c.args.at c.args.n c.if-skipped-eq0.true c.requires.within
 
-pub loop-i-preserved : goal.loop-i-preserved
-loop-i-preserved c = rw (c.in_ok-extend_from_slice.ensures.items, c.to_be_bytes-word.ensures) (copied_word c.args.bytes.now _ c.args.at c.loop-i.i c.peek.result c.loop-i.invariant (omega arith) c.peek.type_inv c.peek.ensures)
+pub returns-clause-bytes : goal.returns-clause-bytes
+returns-clause-bytes c =
+    let out = c.put_across.new.out in
+    let long : length out ≡ c.resize.new.self.len = omega (arith, c.put_across.auto.out, c.deref_mut.ensures.len) in
+    rw (take_at out (drop (length out) c.resize.new.self.items) c.resize.new.self.len long) c.put_across.ensures.bytes
 
-pub returns : goal.returns
-returns c =
-    let h = copied_last c.args.bytes.now c.loop-i.copied.items c.args.at c.loop-i.i c.args.n c.peek-2.result (omega arith) c.loop-i.invariant c.requires.within c.peek-2.type_inv c.peek-2.ensures in
-    rw (c.in_ok-extend_from_slice-2.ensures.items, c.to_be_bytes-last.ensures) (record { many = h.many; bytes = h.small; same = h.same })
+pub returns-clause-same : goal.returns-clause-same
+returns-clause-same c =
+    let out = c.put_across.new.out in
+    let from = c.args.at / 8 in
+    let long : length out ≡ c.resize.new.self.len = omega (arith, c.put_across.auto.out, c.deref_mut.ensures.len) in
+    let many : length out ≡ c.args.n = omega (arith, long, c.in_ok-resize.ensures.len) in
+    let k : from + c.args.n + 1 - from ≡ c.args.n + 1 = omega arith in
+    rw (take_at out (drop (length out) c.resize.new.self.items) c.resize.new.self.len long)
+    (rw (many, k) at c.put_across.ensures.same ∙ part_across c.args.bytes.now c.args.at c.args.n c.requires.within (omega arith) (omega arith))
