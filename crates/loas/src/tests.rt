@@ -2,7 +2,7 @@
 ghost use Rattle.loas.specs.Pieces.{joined};
 ghost use Rattle.std.specs.Prelude.{◌≡◌, ◌<◌, IfOk};
 
-use crate::{Front, Loas, LoasFault, frames_of};
+use crate::{Front, Loas, LoasFault, frames_of, with_header};
 use bit_core::Octets;
 use std::alloc::{AllocError, Global};
 use std::process::Abort;
@@ -113,5 +113,13 @@ fn lends_a_frame(rt: HostRuntime) -> Result<(), Fail> {
     assert_eq!(rt; framer.at(), 5);
     assert!(rt; matches!(framer.next(rt.alloc()), Ok(None)));
     assert!(rt; matches!(framer.end(), Err(LoasFault::Truncated { byte: 5 })));
+    Ok(())
+}
+
+#[test]
+fn a_header_counts_the_bytes(rt: HostRuntime) -> Result<(), Fail> {
+    let alloc = rt.alloc();
+    let frame = with_header(alloc, b"\x80\x88\x00")?;
+    assert_eq!(rt; frame.as_slice(), b"\x56\xE0\x03\x80\x88\x00".as_slice());
     Ok(())
 }
