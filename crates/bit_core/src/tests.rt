@@ -101,7 +101,10 @@ fn octets_are_listed(rt: HostRuntime) -> Result<(), Fail> {
         assert_eq!(rt; octets.as_slice(), [1, 2].as_slice());
         assert_eq!(rt; octets.len(), 2);
         assert_eq!(rt; (octets.get(1), octets.get(2)), (Some(&2), None));
-        assert_eq!(rt; octets.copy(alloc)?.into_vec().as_slice(), [1, 2].as_slice());
+        assert_eq!(rt;
+            octets.copy(alloc)?.into_vec().as_slice(),
+            [1, 2].as_slice()
+        );
     }
     Ok(())
 }
@@ -156,7 +159,11 @@ fn writer_puts_fields_together(rt: HostRuntime) -> Result<(), Fail> {
     assert_eq!(rt; empty.len(), 0);
     let mut writer = BitWriter::new(alloc);
     writer.put(5, 3)?;
-    assert!(rt; writer.into_bits().same(&bits_of(alloc, &[true, false, true])?));
+    assert!(rt;
+        writer
+            .into_bits()
+            .same(&bits_of(alloc, &[true, false, true])?)
+    );
     let mut writer = BitWriter::new(alloc);
     for (value, n, len) in [(5, 3, 3), (0, 0, 3), (0x5F, 8, 11)] {
         writer.put(value, n)?;

@@ -7,6 +7,7 @@ use Rattle.layout.specs.Exact.{IsExact, IsExactToEnd}
 use Rattle.layout.proofs.Layouts.{both-exact, shaped-exact, wrapped-exact, checked-exact, where_set-exact, constant-exact, behind-exact, same-exact}
 use Rattle.layout.proofs.TaggedExact.{as_variant-exact}
 use Rattle.layout.proofs.ToEnd.{inside-exact}
+use Rattle.bit_core.specs.Plain.{number}
 use Rattle.bit_core.proofs.PlainFacts.{number-exact, flag-exact}
 use Rattle.esc_value.specs.declared.latm_value.LatmValue.{LatmValue}
 use Rattle.esc_value.specs.LatmValue.{IsWellFormed as IsLatmWellFormed}

@@ -26,7 +26,11 @@ fn read_unit_bytes(alloc: Global, reader: &mut BitReader) -> Result<Octets, PreF
     Ok(bytes)
 }
 
-fn read_each_unit_bytes(alloc: Global, reader: &mut BitReader, count: u32) -> Result<UnitBytes, PreFault>
+fn read_each_unit_bytes(
+    alloc: Global,
+    reader: &mut BitReader,
+    count: u32,
+) -> Result<UnitBytes, PreFault>
     ensures { GivesUnless is_memory (times count (counted_bytes 16 16 0)) reader.old reader.new result }
 {
     let mut units = UnitBytes::new(alloc);

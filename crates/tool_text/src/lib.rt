@@ -8,10 +8,10 @@
 #![tactic(auto)]
 
 mod check_text;
+mod configuration_text;
 mod element_text;
 mod faults;
 mod frame_text;
-mod configuration_text;
 mod mux_text;
 mod parts;
 mod preroll_text;
@@ -24,9 +24,9 @@ mod setting_text;
 mod tests;
 
 pub use check_text::check_line;
+pub use configuration_text::configuration_lines;
 pub use faults::{at_frame, carry_refusal, loas_refusal, mux_refusal};
 pub use frame_text::frame_line;
-pub use configuration_text::configuration_lines;
 pub use mux_text::mux_lines;
 pub use preroll_text::{bad_preroll_line, preroll_lines};
 pub use refusal::{Place, Reason, Refusal, Within};

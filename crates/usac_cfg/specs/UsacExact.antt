@@ -9,7 +9,8 @@ use Rattle.layout.specs.Exact.{IsExact}
 use Rattle.layout.proofs.Layouts.{both-exact, shaped-exact, wrapped-exact, checked-exact, where_set-exact, known-exact, times-exact, same-exact, some_is}
 use Rattle.layout.proofs.TaggedExact.{tagged-exact, as_variant-exact}
 use Rattle.layout.proofs.Every.{all_so}
-use Rattle.bit_core.proofs.PlainFacts.{number-exact, flag-exact, run_of_bytes-exact}
+use Rattle.bit_core.proofs.PlainFacts.{bits-exact, number-exact, flag-exact, run_of_bytes-exact}
+use Rattle.bit_core.specs.Plain.{number}
 use Rattle.esc_value.specs.EscapedExact.{escaped_value-exact}
 use Rattle.tables.specs.Tables.{rates, frames, channels as channel_table, at_index}
 use Rattle.sbr_mps.specs.declared.core_config.CoreConfig.{CoreConfig}

@@ -2,6 +2,7 @@ use Rattle.std.proofs.Common.{◌≡◌, ◌-◌, ◌≤◌}
 use Rattle.layout.specs.Times.{times_read}
 use Rattle.layout.proofs.Counted.{with_front}
 use Rattle.bit_core.specs.Plain.{number}
+use Rattle.usac_cfg.specs.Faults.{from_short}
 use Rattle.usac_cfg.proofs.reading.read_each_position.Given as goal
 
 abbrev pub invariant-loop : goal.invariant-loop
