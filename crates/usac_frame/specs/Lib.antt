@@ -7,3 +7,4 @@ pub mod PartExact
 pub mod FrameExact
 pub mod AccessUnit
 pub mod FrameFound
+pub mod Head

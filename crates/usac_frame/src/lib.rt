@@ -9,6 +9,7 @@
 
 mod fault;
 mod frame;
+mod head;
 mod immediate;
 pub mod laws;
 mod part;
@@ -21,6 +22,7 @@ mod writing;
 
 pub use fault::FrameFault;
 pub use frame::{Frame, read_frame, write_frame};
+pub use head::{FrameHead, read_head};
 pub use immediate::{first_payload, is_immediate, is_whole};
 pub use part::{ExtPart, LengthForm, Parts};
 pub use unit::{Unit, payload_length, unit_of};

@@ -58,7 +58,7 @@ fn read_part(alloc: Global, reader: &mut BitReader, ext: &ExtConfig) -> Result<E
 }
 
 /// Reads a part for each leading extension element.
-fn read_parts(
+pub fn read_parts(
     alloc: Global,
     reader: &mut BitReader,
     elements: &[ElementConfig],
