@@ -38,7 +38,7 @@ impl FrameHead {
     }
 }
 
-/// Reads a frame up to its rest. A refusal may stand behind some of its fields.
+/// Reads a frame up to its rest. On error some fields may already be consumed.
 fn read_head_fields(
     alloc: Global,
     config: &UsacConfig,
