@@ -1,6 +1,7 @@
 ghost use Rattle.std.specs.Prelude.{◌≡◌, ◌+◌, ◌*◌, ◌%◌, ◌<◌, ◌≤◌, List, ℕ, ◌∷◌, ◌++◌, length, map, take, None, OnOk, OnErr};
 ghost use Rattle.usac_cfg.specs.UsacConfig.{IsWellFormed};
 ghost use Rattle.core_iface.specs.Folding.{warm_of, places, value_of, weighted, below, sample, ramp};
+ghost use Rattle.layout.specs.Text.{num};
 
 use crate::cores::Core;
 use crate::fault::CoreFault;
@@ -120,15 +121,33 @@ fn value_behind(context: u16, unit: &Unit) -> u16
     }
 }
 
+/// The sum of the places of a word's ones, where its first bit stands at that place. The mask before a power of two has the
+/// bits whose places, counted from 0, have that power.
+#[inline(always)]
+fn places_in_word(word: u64, place: u32) -> u32
+    requires { place ≤ 32768 }
+    ensures places { result ≡ places place (num 64 word) }
+    ensures small { result ≤ 2101184 }
+{
+    let ones = word.count_ones();
+    let in_1 = (word & 0x5555_5555_5555_5555).count_ones();
+    let in_2 = (word & 0x3333_3333_3333_3333).count_ones();
+    let in_4 = (word & 0x0F0F_0F0F_0F0F_0F0F).count_ones();
+    let in_8 = (word & 0x00FF_00FF_00FF_00FF).count_ones();
+    let in_16 = (word & 0x0000_FFFF_0000_FFFF).count_ones();
+    let in_32 = (word & 0x0000_0000_FFFF_FFFF).count_ones();
+    place * ones + (in_1 + (2 * in_2 + (4 * in_4 + (8 * in_8 + (16 * in_16 + 32 * in_32)))))
+}
+
 /// The sum of the places of the ones, counted from 1, modulo 32768.
 fn sum_of_places(bits: &Bits) -> u32
     ensures { result ≡ places 1 bits.now % 32768 }
 {
     let mut sum: u32 = 0;
-    for at in 0..bits.len() {
-        if bits.get(at).unwrap_or(false) {
-            sum = (sum + (at % 32768) as u32 + 1) % 32768;
-        }
+    let words = bits.words();
+    for i in 0..words.len() {
+        let place = (i % 512) as u32 * 64 + 1;
+        sum = (sum + places_in_word(words[i], place)) % 32768;
     }
     sum
 }
@@ -152,37 +171,43 @@ fn append_ramp(level: u32, channels: u32, times: u32, out: &mut Vec<i16>) -> Res
     ensures err { OnErr result (out.new.items ≡ out.old.items) }
 {
     let before = out.len();
-    let pushed = push_ramp(level, channels, times, out);
-    if pushed.is_err() {
-        out.truncate(before);
-    }
-    pushed
+    let count = channels as usize * times as usize;
+    out.reserve(count)?;
+    out.resize(before + count, 0)?;
+    fill_ramp(level, channels, times, &mut out[before..]);
+    Ok(())
 }
 
-fn push_ramp(level: u32, channels: u32, times: u32, out: &mut Vec<i16>) -> Result<(), AllocError>
-    ensures ok { OnOk result (out.new.items ≡ out.old.items ++ ramp level channels times) }
-    ensures err { OnErr result (take (length out.old.items) out.new.items ≡ out.old.items) }
+/// Writes a ramp that starts at the level. A body of its own for one channel and for two is what makes them fast.
+fn fill_ramp(level: u32, channels: u32, times: u32, out: &mut [i16])
+    requires { length out.old ≡ channels * times }
+    ensures { out.new ≡ ramp level channels times }
 {
-    out.reserve(channels as usize * times as usize)?;
+    match channels {
+        1 => fill_rows(level, 1, times, out),
+        2 => fill_rows(level, 2, times, out),
+        _ => fill_rows(level, channels, times, out),
+    }
+}
+
+#[inline(always)]
+fn fill_rows(level: u32, channels: u32, times: u32, out: &mut [i16])
+    requires { length out.old ≡ channels * times }
+    ensures { out.new ≡ ramp level channels times }
+{
     for time in 0..times {
-        push_row(level, time, channels, out)?;
+        for channel in 0..channels {
+            let place = time as usize * channels as usize + channel as usize;
+            out[place] = sample_at(level, time, channel);
+        }
     }
-    Ok(())
 }
 
-fn push_row(level: u32, time: u32, channels: u32, out: &mut Vec<i16>) -> Result<(), AllocError>
-    ensures ok { OnOk result (out.new.items ≡ out.old.items ++ map (sample level time) (below channels)) }
-    ensures err { OnErr result (take (length out.old.items) out.new.items ≡ out.old.items) }
-{
-    for channel in 0..channels {
-        out.push(sample_at(level, time, channel))?;
-    }
-    Ok(())
-}
-
+#[inline(always)]
 fn sample_at(level: u32, time: u32, channel: u32) -> i16
     ensures { result ≡ sample level time channel }
 {
-    let place = u64::from(level) + u64::from(time) * (u64::from(channel) + 1);
-    ((place % 65536) as u16).cast_signed()
+    let step = ((u64::from(channel) + 1) % 65536) as u16;
+    let climb = ((time % 65536) as u16).wrapping_mul(step);
+    ((level % 65536) as u16).wrapping_add(climb).cast_signed()
 }

@@ -1,4 +1,4 @@
-ghost use Rattle.std.specs.Prelude.{◌≡◌, ◌++◌, length, take, OnOk, OnErr};
+ghost use Rattle.std.specs.Prelude.{◌≡◌, ◌++◌, ◌*◌, length, OnOk, OnErr};
 ghost use Rattle.core_iface.specs.Samples.{sample_bytes};
 
 use std::alloc::AllocError;
@@ -11,22 +11,20 @@ pub fn push_sample_bytes(samples: &[i16], bytes: &mut Vec<u8>) -> Result<(), All
     ensures err { OnErr result (bytes.new.items ≡ bytes.old.items) }
 {
     let before = bytes.len();
-    let pushed = push_each(samples, bytes);
-    if pushed.is_err() {
-        bytes.truncate(before);
-    }
-    pushed
+    let count = 2 * samples.len();
+    bytes.reserve(count)?;
+    bytes.resize(before + count, 0)?;
+    put_each(samples, &mut bytes[before..]);
+    Ok(())
 }
 
-fn push_each(samples: &[i16], bytes: &mut Vec<u8>) -> Result<(), AllocError>
-    ensures ok { OnOk result (bytes.new.items ≡ bytes.old.items ++ sample_bytes samples.now) }
-    ensures err { OnErr result (take (length bytes.old.items) bytes.new.items ≡ bytes.old.items) }
+fn put_each(samples: &[i16], out: &mut [u8])
+    requires { length out.old ≡ 2 * length samples.now }
+    ensures { out.new ≡ sample_bytes samples.now }
 {
-    bytes.reserve(2 * samples.len())?;
-    for sample in samples {
-        let number = sample.cast_unsigned();
-        bytes.push((number % 256) as u8)?;
-        bytes.push((number / 256) as u8)?;
+    for i in 0..samples.len() {
+        let number = samples[i].cast_unsigned();
+        out[2 * i] = (number % 256) as u8;
+        out[2 * i + 1] = (number / 256) as u8;
     }
-    Ok(())
 }

@@ -1,0 +1,3 @@
+pub mod Places
+pub mod Weights
+pub mod Filling
