@@ -1,53 +1,63 @@
 // The line of a frame.
-ghost use Rattle.std.specs.Prelude.{◌≡◌, ◌++◌, IfOk, OnOk};
-ghost use Rattle.std.specs.String.{string_bytes};
+ghost use Rattle.std.specs.Prelude.{◌≡◌, ◌++◌, IfOk, OnOk, decimal};
 ghost use Rattle.tool_text.specs.FrameText.{length_or_dash, lengths_behind_commas, leading_text, frame_line};
 
-use crate::parts::{dash, digit};
+use crate::parts::digit;
 use bit_core::Octets;
+use itoa::Buffer;
 use std::alloc::{AllocError, Global};
 use usac_frame::{ExtPart, Frame};
 
-/// The number of bytes of a part's payload, where it is there.
-fn length_or_dash(alloc: Global, part: &ExtPart) -> Result<String, AllocError>
-    ensures { IfOk result (λ text. string_bytes text ≡ length_or_dash part.now) }
+/// Room for the line of a frame with some leading parts.
+const ROOM: usize = 80;
+
+/// Adds a text, and a number behind it.
+fn push_field(name: &[u8], number: u64, line: &mut Vec<u8>) -> Result<(), AllocError>
+    ensures { OnOk result (line.new.items ≡ line.old.items ++ (name.now ++ decimal number)) }
 {
-    match part {
-        ExtPart::Absent => dash(alloc),
-        ExtPart::Present { payload, .. } => {
-            let bytes = payload.len();
-            format!(in alloc; "{bytes}")
-        }
-    }
+    let mut buffer = Buffer::new();
+    line.extend_from_slice(name)?;
+    line.extend_from_slice(buffer.format(number).as_bytes())?;
+    Ok(())
 }
 
-/// Adds what is told of each part, behind a comma.
-fn push_lengths_behind_commas(
-    alloc: Global,
-    parts: &[ExtPart],
-    text: &mut String,
-) -> Result<(), AllocError>
-    ensures { OnOk result (string_bytes text.new ≡ string_bytes text.old ++ lengths_behind_commas parts.now) }
+/// Adds the number of bytes of a part's payload, or a dash where the part is absent.
+fn push_length(part: &ExtPart, line: &mut Vec<u8>) -> Result<(), AllocError>
+    ensures { OnOk result (line.new.items ≡ line.old.items ++ length_or_dash part.now) }
 {
-    for part in parts {
-        let length = length_or_dash(alloc, part)?;
-        let entry = format!(in alloc; ",{length}")?;
-        text.push_str(&entry)?;
+    match part {
+        ExtPart::Absent => line.extend_from_slice(b"-")?,
+        ExtPart::Present { payload, .. } => {
+            let mut buffer = Buffer::new();
+            line.extend_from_slice(buffer.format(payload.len()).as_bytes())?;
+        }
     }
     Ok(())
 }
 
-fn leading_text(alloc: Global, parts: &[ExtPart]) -> Result<String, AllocError>
-    ensures { IfOk result (λ text. string_bytes text ≡ leading_text parts.now) }
+/// Adds what is told of each part, behind a comma.
+fn push_lengths_behind_commas(parts: &[ExtPart], line: &mut Vec<u8>) -> Result<(), AllocError>
+    ensures { OnOk result (line.new.items ≡ line.old.items ++ lengths_behind_commas parts.now) }
+{
+    for part in parts {
+        line.extend_from_slice(b",")?;
+        push_length(part, line)?;
+    }
+    Ok(())
+}
+
+/// Adds what is told of the leading parts.
+fn push_leading(parts: &[ExtPart], line: &mut Vec<u8>) -> Result<(), AllocError>
+    ensures { OnOk result (line.new.items ≡ line.old.items ++ leading_text parts.now) }
 {
     match parts {
         [first, more @ ..] => {
-            let mut text = length_or_dash(alloc, first)?;
-            push_lengths_behind_commas(alloc, more, &mut text)?;
-            Ok(text)
+            push_length(first, line)?;
+            push_lengths_behind_commas(more, line)?;
         }
-        [] => format!(in alloc; "none"),
+        [] => line.extend_from_slice(b"none")?,
     }
+    Ok(())
 }
 
 /// The line of a frame with its line feed: its number, counted from 0; usacIndependencyFlag; the number of bytes of its access
@@ -68,10 +78,13 @@ pub fn frame_line(
 ) -> Result<Octets, AllocError>
     ensures { IfOk result (λ line. line ≡ frame_line number bytes frame.now) }
 {
-    let independent = digit(frame.independent);
-    let leading = leading_text(alloc, frame.leading.as_slice())?;
-    let text = format!(in alloc;
-        "frame {number} independent={independent} bytes={bytes} leading={leading}\n"
-    )?;
-    Ok(Octets::from_vec(text.into_bytes()))
+    let independent = u64::from(digit(frame.independent));
+    let mut line = Vec::with_capacity(alloc, ROOM)?;
+    push_field(b"frame ", number, &mut line)?;
+    push_field(b" independent=", independent, &mut line)?;
+    push_field(b" bytes=", bytes, &mut line)?;
+    line.extend_from_slice(b" leading=")?;
+    push_leading(frame.leading.as_slice(), &mut line)?;
+    line.extend_from_slice(b"\n")?;
+    Ok(Octets::from_vec(line))
 }

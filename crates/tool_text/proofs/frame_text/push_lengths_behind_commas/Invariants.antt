@@ -1,7 +1,6 @@
 use Rattle.std.proofs.Common.{◌≡◌, ◌++◌, take}
-use Rattle.std.specs.String.{string_bytes}
 use Rattle.tool_text.specs.FrameText.{lengths_behind_commas}
 use Rattle.tool_text.proofs.frame_text.push_lengths_behind_commas.Given as goal
 
 abbrev pub invariant-loop-part : goal.invariant-loop-part
-invariant-loop-part l = string_bytes l.text ≡ string_bytes l.fn.text ++ lengths_behind_commas (take l.part-index l.parts)
+invariant-loop-part l = l.line.items ≡ l.fn.line.items ++ lengths_behind_commas (take l.part-index l.parts)
