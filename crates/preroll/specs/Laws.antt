@@ -4,7 +4,9 @@ use Rattle.layout.specs.Laws.{SpellsOnce, IsDecidedWhole}
 use Rattle.layout.specs.Reading.{ReadsText}
 use Rattle.layout.specs.Text.{bits_of, pad}
 use Rattle.usac_cfg.specs.declared.usac_config.UsacConfig.{UsacConfig}
+use Rattle.usac_cfg.specs.UsacConfig as configuration
 use Rattle.usac_frame.specs.declared.frame.Frame.{Frame}
+use Rattle.usac_frame.specs.AccessUnit.{IsFrame}
 use Rattle.usac_frame.specs.Units.{UnitValue}
 use Rattle.preroll.specs.declared.fault.PreFault.{PreFault}
 use Rattle.preroll.specs.declared.fault.CarryFault.{CarryFault}
@@ -13,6 +15,7 @@ use Rattle.preroll.specs.Faults.{is_memory}
 use Rattle.preroll.specs.PreRoll.{preroll, preroll_text, PreRollFaults, IsWellFormed}
 use Rattle.preroll.specs.Payload.{preroll_of, fault_of}
 use Rattle.preroll.specs.Carried.{IsFirst, Carries}
+use Rattle.preroll.specs.Carrying.{Carried, IsJudged, carried_of, Shown, shown, Shows}
 
 -- A payload is at most one preroll.
 abbrev pub IsSpelledOnce : Type 0
@@ -47,3 +50,13 @@ pub record IsJudgedOnce : Type 0 where
   pub one_fault : (c : UsacConfig) (f : Frame) (e g : CarryFault) → IsFirst c f e → IsFirst c f g → e ≡ g
   pub not_both : (c : UsacConfig) (f : Frame) (e : CarryFault) (fade : Bool) (us : List UnitValue) → IsFirst c f e → Carries c f fade us → ⊥
   pub one_list : (c : UsacConfig) (f : Frame) (a b : Bool) (us vs : List UnitValue) → Carries c f a us → Carries c f b vs → (a ≡ b) × (us ≡ vs)
+
+-- A frame carries units, or breaks a rule first, and which of the two is one answer: `carried_of` gives it.
+pub record IsCarriedOf : Type 0 where
+  pub is : (c : UsacConfig) (f : Frame) → configuration.IsWellFormed c → IsJudged c f (carried_of c f)
+  pub found : (c : UsacConfig) (f : Frame) (r : Result Carried CarryFault) → configuration.IsWellFormed c → IsJudged c f r → carried_of c f ≡ r
+
+-- What an access unit that is a frame shows is what `shown` gives, and nothing else.
+pub record IsShownOf : Type 0 where
+  pub shows : (c : UsacConfig) (au : List ℕ) (g : Frame) → configuration.IsWellFormed c → IsFrame c au g → Shows c au (shown c au)
+  pub once : (c : UsacConfig) (au : List ℕ) (s : Shown) → configuration.IsWellFormed c → Shows c au s → s ≡ shown c au

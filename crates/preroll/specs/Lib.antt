@@ -3,6 +3,7 @@ pub mod PreRoll
 pub mod PreRollExact
 pub mod Payload
 pub mod Carried
+pub mod Carrying
 pub mod Steps
 pub mod Laws
 pub mod PayloadFound

@@ -1,7 +1,7 @@
 //! What holds of every preroll, and of the rules.
 //!
 //! The functions run no code; their contracts are the theorems.
-ghost use Rattle.preroll.specs.Laws.{IsSpelledOnce, IsDecided, IsPreRollOf, IsFaultOf, IsReadBack, IsJudgedOnce};
+ghost use Rattle.preroll.specs.Laws.{IsSpelledOnce, IsDecided, IsPreRollOf, IsFaultOf, IsReadBack, IsJudgedOnce, IsCarriedOf, IsShownOf};
 
 /// A payload is at most one preroll.
 pub fn prerolls_are_spelled_once()
@@ -31,4 +31,14 @@ pub fn prerolls_are_read_back()
 /// A frame has one first fault at most, and none where it carries units; and these are one list.
 pub fn frames_are_judged_once()
     ensures { IsJudgedOnce }
+{}
+
+/// A frame carries units, or breaks a rule first; the one function that definitions compute with gives which.
+pub fn frames_are_judged()
+    ensures { IsCarriedOf }
+{}
+
+/// What an access unit that is a frame shows is one: the configuration, its unit, and what it carries or its first fault.
+pub fn frames_are_shown()
+    ensures { IsShownOf }
 {}

@@ -5,3 +5,5 @@ pub mod ConfigExtension
 pub mod UsacConfig
 pub mod Spelling
 pub mod UsacExact
+pub mod Same
+pub mod SameFound
