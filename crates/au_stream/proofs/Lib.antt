@@ -10,3 +10,4 @@ pub mod Gathering
 pub mod Marks
 pub mod SegmentLists
 pub mod Written
+pub mod Held

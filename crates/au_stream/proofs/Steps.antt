@@ -22,7 +22,7 @@ use Rattle.au_stream.specs.Elements.{IsElement, Carries, in_force_behind}
 use Rattle.au_stream.specs.Frames.{Frame, config_of, frames_under, frames_from, last_of, TellsChange}
 use Rattle.au_stream.specs.Script.{most_bytes, Mark, End, SyncLost, BadElement, Truncated, HasFrames, IsScript, IsOpen}
 use Rattle.au_stream.specs.Reading.{Reading, pending_frames, KnowsChange, Holds, HasRead}
-use Rattle.au_stream.specs.Giving.{Tells, refused_element, TookElement, TakesElement, Gave, weight}
+use Rattle.au_stream.specs.Giving.{Tells, refused_element, TookElement, Unread, Gave, weight}
 use Rattle.au_stream.specs.Taking.{Seen, Takes}
 use Rattle.au_stream.specs.Events.{IsEvent, Answers, GivenBy, Reads}
 use Rattle.au_stream.proofs.Counting.{some_in_force, slots_fit}
@@ -34,10 +34,6 @@ use Rattle.au_stream.proofs.Scripts.{script_end, script_truncated, script_lost, 
 no_pending : (m : Option MuxConfig) (opens : Bool) (slots : List (List ℕ)) → slots ≡ [] → frames_under m opens slots ≡ []
 no_pending None opens slots e = refl
 no_pending (Some m) opens slots e = ap (λ (x : List (List ℕ)). frames_under (Some m) opens x) e
-
-pub no_items : {A : Type 0} (xs : List A) → length xs ≡ 0 → reverse xs ≡ []
-no_items [] e = refl
-no_items (x ∷ xs) e = absurd (omega arith)
 
 -- ---- more bytes
 
@@ -253,15 +249,15 @@ reads_end got given r framer before now h none t limit =
 
 -- a fault of the element
 pub reads_bad : (got : List ℕ) (given : List Frame) (r new : Reading) (framer : Framer) (before now : Seen) (n frame : ℕ) (fault : MuxFault) → HasRead got given r → r.pending ≡ [] → Takes most_bytes r.framer framer before now (Ok (Some n)) → pushed framer ≤ most_bytes
-    → TakesElement n (record r { framer = framer }) new (Err (Mux frame fault)) → Reads got given r new before now (Err (Mux frame fault))
+    → Unread n (record r { framer = framer }) (Mux frame fault) → Reads got given r new before now (Err (Mux frame fault))
 reads_bad got given r new framer before now n frame fault h none t limit bad =
     let more = t.got in
     let s = held_more got more given r framer h.holds t.answered.0 limit in
     let b = t.answered.1 in
     let body = take n (drop 3 framer.held) in
     let all = all_given (got ++ more) given (record r { framer = framer }) s none in
-    let fails : (let L = element (in_force_behind None s.elements) in L.Faults 0 fault (bits_of body)) = subst (λ (m : Option MuxConfig). let L = element m in L.Faults 0 fault (bits_of body)) s.in_force bad.2 in
-    let number : frame ≡ length (frames_from None s.elements) = bad.1 ∙ s.counted ∙ ap (λ (x : List Frame). length x) (sym all) in
+    let fails : (let L = element (in_force_behind None s.elements) in L.Faults 0 fault (bits_of body)) = subst (λ (m : Option MuxConfig). let L = element m in L.Faults 0 fault (bits_of body)) s.in_force bad.1 in
+    let number : frame ≡ length (frames_from None s.elements) = bad.0 ∙ s.counted ∙ ap (λ (x : List Frame). length x) (sym all) in
     record {
       more = more;
       from = t.from;
@@ -389,7 +385,7 @@ reads_refused got given r new framer before now (Memory error) h none t limit =
 
 -- an element that was not read
 pub reads_untaken : (got : List ℕ) (given : List Frame) (r new : Reading) (framer : Framer) (before now : Seen) (n : ℕ) (fault : StreamFault) → HasRead got given r → r.pending ≡ [] → Takes most_bytes r.framer framer before now (Ok (Some n)) → pushed framer ≤ most_bytes
-    → TakesElement n (record r { framer = framer }) new (Err fault) → Reads got given r new before now (Err fault)
+    → Unread n (record r { framer = framer }) fault → Reads got given r new before now (Err fault)
 reads_untaken got given r new framer before now n ReadFault h none t limit bad = absurd bad
 reads_untaken got given r new framer before now n TooLarge h none t limit bad = absurd bad
 reads_untaken got given r new framer before now n (Loas fault) h none t limit bad = absurd bad
@@ -397,12 +393,12 @@ reads_untaken got given r new framer before now n (Mux frame fault) h none t lim
 reads_untaken got given r new framer before now n (Memory error) h none t limit bad = reads_no_memory got given r new framer before now n error h t limit
 
 -- why an element was not read
-pub untaken : (n : ℕ) (r : Reading) (fault : MuxFault) → (is_memory fault ≡ false → (let L = element r.in_force in L.Faults 0 fault (bits_of (take n (drop 3 r.framer.held))))) → TakesElement n r r (Err (refused_element r.count fault))
-untaken n r mux.NoConfig bad = (refl, refl, bad refl)
-untaken n r (mux.OutOfProfile at field) bad = (refl, refl, bad refl)
-untaken n r (mux.Short at) bad = (refl, refl, bad refl)
-untaken n r (mux.Asc fault) bad = (refl, refl, bad refl)
-untaken n r (mux.Memory error) bad = refl
+pub untaken : (n : ℕ) (r : Reading) (fault : MuxFault) → (is_memory fault ≡ false → (let L = element r.in_force in L.Faults 0 fault (bits_of (take n (drop 3 r.framer.held))))) → Unread n r (refused_element r.count fault)
+untaken n r mux.NoConfig bad = (refl, bad refl)
+untaken n r (mux.OutOfProfile at field) bad = (refl, bad refl)
+untaken n r (mux.Short at) bad = (refl, bad refl)
+untaken n r (mux.Asc fault) bad = (refl, bad refl)
+untaken n r (mux.Memory error) bad = tt
 
 -- a call that was refused fails the reader
 pub reads_marked : (got : List ℕ) (given : List Frame) (r mid : Reading) (failed : Bool) (before now : Seen) (result : Result (Option Event) StreamFault) → Reads got given r mid before now result → mid.failed ≡ false → (IsTrue failed ↔ IsErr result) → Reads got given r (record mid { failed = failed }) before now result
@@ -462,3 +458,16 @@ read_frames got rest given r h =
     let p = pending_frames r in
     let f = frames_begin got rest s.elements r.framer.held s.few s.carried in
     (p ++ f.0, subst (λ (x : List Frame). HasFrames (got ++ rest) x) (ap (λ (x : List Frame). x ++ f.0) s.frames ∙ append_assoc given p f.0) f.1)
+
+-- out of memory for an access unit
+pub reads_no_copy : (got : List ℕ) (given : List Frame) (r new : Reading) (at : Seen) (error : Rattle.std.specs.declared.alloc.AllocError.AllocError) → HasRead got given r → Reads got given r new at at (Err (Memory error))
+reads_no_copy got given r new at error h = record {
+  more = [];
+  from = prepend-none at.left;
+  within = omega (arith, h.holds.few, length-append got []);
+  needed = inl refl;
+  ended = false;
+  at_end = λ never. absurd (let x : false ≡ true = never in cc);
+  answers = λ rest e. subst (λ (x : List ℕ). (later : List Frame) × HasFrames (x ++ rest) (given ++ later)) (sym (append-nil got)) (read_frames got rest given r h);
+  leaves = tt;
+}

@@ -49,14 +49,13 @@ pub record TookElement (n : ℕ) (old new : Reading) : Type 0 where
   pub changed : Tells new.changed old.in_force element.config
   pub held : new ≡ with_element element new.changed (past n old)
 
-abbrev pub TakesElement : ℕ → Reading → Reading → Result (Unit {0}) StreamFault → Type 0
-TakesElement n old new (Ok _) = TookElement n old new
-TakesElement n old new (Err (Mux frame fault)) =
-    (new ≡ old) × (frame ≡ old.count) × (let L = element old.in_force in L.Faults 0 fault (bits_of (take n (drop 3 old.framer.held))))
-TakesElement n old new (Err (Memory e)) = new ≡ old
-TakesElement n old new (Err ReadFault) = ⊥
-TakesElement n old new (Err TooLarge) = ⊥
-TakesElement n old new (Err (Loas fault)) = ⊥
+-- why it was not read: it has this fault, or there was no memory
+abbrev pub Unread : ℕ → Reading → StreamFault → Type 0
+Unread n r (Mux frame fault) = (frame ≡ r.count) × (let L = element r.in_force in L.Faults 0 fault (bits_of (take n (drop 3 r.framer.held))))
+Unread n r (Memory e) = Unit {0}
+Unread n r ReadFault = ⊥
+Unread n r TooLarge = ⊥
+Unread n r (Loas fault) = ⊥
 
 -- the first access unit was given
 pub record Gave (old new : Reading) (event : Event) : Type 0 where

@@ -5,6 +5,7 @@ pub mod Script
 pub mod Taking
 pub mod Reading
 pub mod Giving
+pub mod Held
 pub mod Events
 pub mod Gathering
 pub mod Whole

@@ -1,5 +1,5 @@
 // The access units of a source.
-ghost use Rattle.std.specs.Prelude.{◌≡◌, ◌↔◌, ◌∷◌, [], ℕ, List, None, Some, Ok, IsTrue, IsErr, OnErr, ◌+◌, ◌<◌, ◌≤◌, false, true, length};
+ghost use Rattle.std.specs.Prelude.{◌≡◌, ◌↔◌, ◌∷◌, [], ℕ, List, None, Some, Ok, IsTrue, IsErr, OnErr, IfOk, ◌+◌, ◌<◌, ◌≤◌, false, true, length};
 ghost use Rattle.std.specs.Option.{option_copied, option_map};
 ghost use Rattle.layout.specs.Layout.{FitsOption};
 ghost use Rattle.loas.specs.Framing.{BeginsWithFrame};
@@ -10,7 +10,9 @@ ghost use Rattle.au_stream.specs.Frames.{Frame, last_of};
 ghost use Rattle.au_stream.specs.Script.{most_bytes};
 ghost use Rattle.au_stream.specs.Taking.{seen, IsReadFault, Caused};
 ghost use Rattle.au_stream.specs.Reading.{HasRead};
-ghost use Rattle.au_stream.specs.Giving.{Tells, with_element, TakesElement, Gave, Falls, IsSmall};
+ghost use Rattle.latm.specs.MuxElement.{then_in_force};
+ghost use Rattle.au_stream.specs.Giving.{Tells, Falls, IsSmall};
+ghost use Rattle.au_stream.specs.Held.{FindsSlots, IsNext, Passed, Opens};
 ghost use Rattle.au_stream.specs.Events.{Reads};
 
 use crate::event::Event;
@@ -18,9 +20,9 @@ use crate::fault::{StreamFault, refused};
 use crate::frame_reader::FrameReader;
 use asc::Asc;
 use bit_core::Octets;
-use latm::{MuxConfig, MuxElement, read_element};
+use latm::{MuxConfig, Places, SlotPlaces, read_places};
 use outside::Source;
-use std::alloc::Global;
+use std::alloc::{AllocError, Global};
 use std::marker::Model;
 use usac_cfg::UsacConfig;
 
@@ -44,35 +46,38 @@ use usac_cfg::UsacConfig;
 pub struct AuReader {
     frames: FrameReader,
     in_force: Option<MuxConfig>,
-    // the access units of the element that are still to be given, the last one first
-    pending: Vec<Octets>,
-    opens: bool,
-    changed: bool,
+    // where the access units of the last element that was read stand, and how many of them were given; its frame is passed
+    // behind the last one
+    slots: SlotPlaces,
+    given: u64,
+    // how many bytes that element has
+    length: usize,
     count: u64,
     failed: bool,
 }
 
 impl Model for AuReader {
-    ghost use Rattle.std.specs.Prelude.{◌≤◌, ◌+◌, vec_len, reverse};
+    ghost use Rattle.std.specs.Prelude.{◌≤◌, drop, false};
     ghost use Rattle.layout.specs.Layout.{FitsOption};
     ghost use Rattle.latm.specs.MuxConfig.{IsWellFormed};
     ghost use Rattle.loas.specs.Framer.{pushed};
     ghost use Rattle.au_stream.specs.Script.{most_bytes};
     ghost use Rattle.au_stream.specs.Reading.{Reading};
+    ghost use Rattle.au_stream.specs.Held.{behind_read, slots_of, HoldsSlots};
 
     ghost Value = { Reading };
 
     ghost view = { λ r. record {
-      framer = r.frames;
+      framer = behind_read (drop r.given r.slots) r.length r.frames;
       in_force = r.in_force;
-      pending = reverse r.pending.items;
-      opens = r.opens;
-      changed = r.changed;
+      pending = slots_of (drop r.given r.slots) r.length r.frames;
+      opens = false;
+      changed = false;
       count = r.count;
       failed = r.failed;
     } };
 
-    ghost invariant = { λ r. (r.count + vec_len r.pending ≤ r.frames.passed) × (pushed r.frames ≤ most_bytes) × FitsOption IsWellFormed r.in_force };
+    ghost invariant = { λ r. HoldsSlots r.slots r.given r.length r.count r.frames × (pushed r.frames ≤ most_bytes) × FitsOption IsWellFormed r.in_force };
 }
 
 // Whether a StreamMuxConfig changes the UsacConfig in force.
@@ -93,9 +98,9 @@ impl AuReader {
         AuReader {
             frames: FrameReader::new(alloc),
             in_force: None,
-            pending: Vec::new(alloc),
-            opens: false,
-            changed: false,
+            slots: SlotPlaces::new(alloc),
+            given: 0,
+            length: 0,
             count: 0,
             failed: false,
         }
@@ -193,64 +198,93 @@ impl AuReader {
         ensures calm { S.calm source.old → S.calm source.new }
         ensures calm_answers { S.calm source.old → IsReadFault result → ⊥ }
     {
-        if self.pending.is_empty() {
-            let Some(length) = self.frames.next(source)? else {
-                return Ok(None);
-            };
-            self.take_element(alloc, length)?;
+        if self.given < self.slots.len() {
+            let au = self.next_slot(alloc)?;
+            return Ok(Some(self.give(au, false, false)));
         }
-        Ok(Some(self.give()))
-    }
-
-    // Reads the element of the LOAS frame at the front, which has `n` bytes behind its header.
-    fn take_element(&mut self, alloc: Global, n: usize) -> Result<(), StreamFault>
-        requires here { BeginsWithFrame n self.old.framer.held }
-        ensures { TakesElement n self.old self.new result }
-    {
-        let element = match read_element(alloc, self.in_force.as_ref(), self.frames.body(n)) {
-            Ok(element) => element,
-            Err(fault) => return Err(refused(self.count, fault)),
+        let Some(length) = self.frames.next(source)? else {
+            return Ok(None);
         };
-        self.frames.pass(n);
-        self.hold(element);
-        Ok(())
+        let event = self.open(alloc, length)?;
+        Ok(Some(event))
     }
 
-    // Holds the access units of an element, and puts its configuration in force, where it has one.
-    fn hold(&mut self, element: MuxElement)
-        requires room { self.old.count + length element.slots ≤ self.old.framer.passed }
-        requires well_formed { FitsOption IsWellFormed element.config }
-        ensures held { self.new ≡ with_element element self.new.changed self.old }
-        ensures changed { Tells self.new.changed self.old.in_force element.config }
+    // Reads the element of the LOAS frame at the front, which has `n` bytes behind its header, and gives its first access
+    // unit.
+    fn open(&mut self, alloc: Global, n: usize) -> Result<Event, StreamFault>
+        requires here { BeginsWithFrame n self.old.framer.held }
+        requires none { self.old.pending ≡ [] }
+        ensures opens { Opens n self.old self.new result }
+        ensures kept { OnErr result (self.new.in_force ≡ self.old.in_force) }
+        ensures going { self.new.failed ≡ self.old.failed }
     {
-        let MuxElement { config, slots, .. } = element;
-        let mut pending = slots.into_vec();
-        pending.reverse();
-        self.pending = pending;
-        self.opens = config.is_some();
-        self.changed = false;
-        if let Some(config) = config {
-            self.changed = is_change(&self.in_force, &config);
-            self.in_force = Some(config);
-        }
+        let config = self.find_slots(alloc, n)?;
+        let au = self.next_slot(alloc)?;
+        let opens = config.is_some();
+        let changed = self.put_in_force(config);
+        Ok(self.give(au, opens, changed))
     }
 
-    // Gives the first access unit that is still to be given.
-    fn give(&mut self) -> Event
-        requires some { 0 < length self.old.pending }
-        ensures { Gave self.old self.new result }
+    // Finds the slots of that element. Its configuration, where it has one, is not yet in force.
+    fn find_slots(&mut self, alloc: Global, n: usize) -> Result<Option<MuxConfig>, StreamFault>
+        requires here { BeginsWithFrame n self.old.framer.held }
+        requires none { self.old.pending ≡ [] }
+        ensures finds { FindsSlots n self.old self.new result }
+        ensures some { IfOk result (λ config. 0 < length self.new.pending) }
+        ensures well_formed { IfOk result (λ config. FitsOption IsWellFormed config) }
     {
-        let Some(au) = self.pending.pop() else {
+        let Places { config, slots } =
+            match read_places(alloc, self.in_force.as_ref(), self.frames.body(n)) {
+                Ok(places) => places,
+                Err(fault) => return Err(refused(self.count, fault)),
+            };
+        self.slots = slots;
+        self.given = 0;
+        self.length = n;
+        Ok(config)
+    }
+
+    // Puts the configuration of an element in force, where it has one, and says whether this changes the UsacConfig.
+    fn put_in_force(&mut self, config: Option<MuxConfig>) -> bool
+        requires { FitsOption IsWellFormed config }
+        ensures put { self.new ≡ record self.old { in_force = then_in_force self.old.in_force config } }
+        ensures tells { Tells result self.old.in_force config }
+    {
+        let Some(config) = config else {
+            return false;
+        };
+        let changed = is_change(&self.in_force, &config);
+        self.in_force = Some(config);
+        changed
+    }
+
+    // A copy of the access unit that is next to be given.
+    fn next_slot(&self, alloc: Global) -> Result<Octets, AllocError>
+        requires { 0 < length self.now.pending }
+        ensures { IfOk result (λ au. IsNext self.now au) }
+    {
+        let Some(place) = self.slots.get(self.given) else {
             unreachable!()
         };
+        place.slot(alloc, self.frames.body(self.length))
+    }
+
+    // Gives that access unit, and passes its frame where it is the last one of it.
+    fn give(&mut self, au: Octets, opens: bool, changed: bool) -> Event
+        requires { 0 < length self.old.pending }
+        ensures passed { Passed self.old self.new }
+        ensures event { result ≡ record { frame = self.old.count; changed = changed; opens = opens; au = au } }
+    {
         let event = Event {
             frame: self.count,
-            changed: self.changed,
-            opens: self.opens,
+            changed,
+            opens,
             au,
         };
-        self.opens = false;
-        self.changed = false;
+        self.given += 1;
+        if self.given == self.slots.len() {
+            self.frames.pass(self.length);
+        }
         self.count += 1;
         event
     }

@@ -5,3 +5,4 @@ pub mod SlotWrites
 pub mod FrameWrites
 pub mod Streams
 pub mod ReadBack
+pub mod PlaceLemmas

@@ -5,5 +5,6 @@ pub mod MuxConfig
 pub mod MuxConfigExact
 pub mod MuxElement
 pub mod MuxElementExact
+pub mod Places
 pub mod Stream
 pub mod Written

@@ -40,7 +40,8 @@ fn read_config(
     Ok(None)
 }
 
-fn read_opening(
+/// Reads `useSameStreamMux`, and the configuration where it is 0. On error some fields may already be consumed.
+pub fn read_opening(
     alloc: Global,
     reader: &mut BitReader,
     in_force: bool,
@@ -82,7 +83,7 @@ fn bits_of_other(other: Option<OtherLength>) -> u32
 }
 
 /// How many slots an element has, and how many bits of other data.
-fn counts(config: Option<&MuxConfig>) -> (u32, u32)
+pub fn counts(config: Option<&MuxConfig>) -> (u32, u32)
     ensures slots { result.0 ≡ slot_count (option_copied config.entry) }
     ensures bits { result.1 ≡ other_bits (option_copied config.entry) }
 {

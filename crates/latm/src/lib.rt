@@ -15,7 +15,9 @@ mod mux_config;
 mod mux_element;
 mod other_length;
 mod pairs;
+mod places;
 mod reading;
+mod slot_place;
 mod stream;
 #[cfg(test)]
 mod tests;
@@ -26,4 +28,6 @@ pub use fault::{MuxFault, MuxField, WriteFault};
 pub use mux_config::MuxConfig;
 pub use mux_element::{MuxElement, Slots, read_element};
 pub use other_length::OtherLength;
+pub use places::{Places, read_places};
+pub use slot_place::{SlotPlace, SlotPlaces};
 pub use stream::{MuxElements, Stream};

@@ -1,0 +1,33 @@
+use Rattle.std.proofs.Common.{◌≡◌, ◌<◌, Some, length, sym, subst}
+use Rattle.std.specs.Prelude.{slice_get}
+use Rattle.std.proofs.lemmas.Result.{IfOk-weaker}
+use Rattle.au_stream.specs.Reading.{Reading}
+use Rattle.au_stream.specs.Held.{IsNext}
+use Rattle.au_stream.proofs.Held.{is_left, is_next, next_held, next_within, never_none}
+use Rattle.au_stream.proofs.reader.AuReader.next_slot.Goals as goal
+
+pub body-requires : goal.body-requires
+body-requires c =
+    let i = c.self.inside in
+    let lt : i.given < length i.slots = is_left i.slots i.given i.length i.frames (rw (← c.self.view_is) at c.requires) in
+    (next_held i.slots i.given i.length i.count i.frames c.self.invariant.0 lt).0
+
+pub slot-requires : goal.slot-requires
+slot-requires c =
+    let i = c.self.inside in
+    let here : slice_get i.slots i.given ≡ Some c.in-Some.place.now = sym c.in-Some.ensures in
+    let within = next_within i.slots i.given i.length i.count i.frames c.in-Some.place.now c.body.result.now c.self.invariant.0 here c.body.ensures in
+    record { size = within.0; within = within.1 }
+
+pub unreachable-requires : goal.unreachable-requires
+unreachable-requires c =
+    let i = c.self.inside in
+    never_none i.slots i.given (is_left i.slots i.given i.length i.frames (rw (← c.self.view_is) at c.requires)) (sym c.in_default.ensures)
+
+pub returns : goal.returns
+returns c =
+    let i = c.self.inside in
+    let here : slice_get i.slots i.given ≡ Some c.in-Some.place.now = sym c.in-Some.ensures in
+    IfOk-weaker c.slot.result _ _
+    (λ au copied. subst (λ (r : Reading). IsNext r au) c.self.view_is (is_next i.slots i.given i.length i.frames i.in_force i.count i.failed c.in-Some.place.now c.body.result.now au here c.body.ensures copied))
+    c.slot.ensures
