@@ -6,7 +6,8 @@ use causes::raised;
 use std::io::Write;
 use std::marker::Model;
 
-/// A writer of std, as a sink. It tells no contents.
+/// A writer of std, as a sink. It tells no contents. Where the writer holds bytes back, as a `BufWriter` does, `flush` hands
+/// them on.
 #[derive(Drop)]
 pub struct StdSink<W> {
     writer: W,

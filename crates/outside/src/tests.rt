@@ -2,6 +2,7 @@ ghost use Rattle.std.specs.Prelude.{◌≤◌};
 
 use crate::{DeviceFault, FileShelf, FromShelf, MemShelf, MemSink, Shelf, Sink, Source, StdSink};
 use std::fs;
+use std::io::BufWriter;
 use std::process::Abort;
 use std::test::Fail;
 
@@ -127,6 +128,35 @@ fn a_file_is_written(rt: HostRuntime) -> Result<(), Fail> {
     sink.flush()?;
     assert_eq!(rt; sink.faults(), 0);
     assert_eq!(rt; fs::read(&rt, path)?.as_slice(), b"abc".as_slice());
+    fs::remove_file(&rt, path)?;
+    Ok(())
+}
+
+#[test]
+fn a_writer_holds_short_pieces_back(rt: HostRuntime) -> Result<(), Fail> {
+    let path = "outside_test_held";
+    let writer = BufWriter::with_capacity(rt.alloc(), 8, fs::create(&rt, path)?)?;
+    let mut sink = StdSink::new(writer);
+    for (piece, there) in [
+        ("abc", ""),
+        ("defgh", ""),
+        ("i", "abcdefgh"),
+        ("jklmnopq", "abcdefghijklmnopq"),
+    ] {
+        assert_eq!(rt; sink.write(piece.as_bytes())?, piece.len());
+        assert_eq!(rt;
+            fs::read(&rt, path)?.as_slice(),
+            there.as_bytes(),
+            "behind {piece}"
+        );
+    }
+    assert_eq!(rt; sink.write(b"r")?, 1);
+    sink.flush()?;
+    assert_eq!(rt;
+        fs::read(&rt, path)?.as_slice(),
+        b"abcdefghijklmnopqr".as_slice()
+    );
+    assert_eq!(rt; sink.faults(), 0);
     fs::remove_file(&rt, path)?;
     Ok(())
 }
