@@ -16,4 +16,4 @@ mod refusals;
 #[cfg(test)]
 mod rows;
 #[cfg(test)]
-mod shown;
+mod show_task;

@@ -26,7 +26,7 @@ use Rattle.au_stream.specs.Events.{IsEvent}
 use Rattle.au_stream.specs.Frames.{Frame, config_of}
 use Rattle.au_stream.specs.Script.{most_bytes}
 use Rattle.au_stream.proofs.SegmentLists.{split_more, segments_few}
-use Rattle.xheaac_tool.specs.declared.checked.Check.{Check}
+use Rattle.xheaac_tool.specs.declared.check_task.Check.{Check}
 use Rattle.commands.specs.declared.frame_end.FrameEnd.{FrameEnd}
 use Rattle.commands.specs.declared.frame_end.FrameEnd.TheVariants as ends
 use Rattle.commands.specs.Commands.{RefusesNoEnd}

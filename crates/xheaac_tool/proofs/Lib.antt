@@ -1,5 +1,5 @@
 pub mod Lines
-pub mod Outputs
+pub mod Growing
 pub mod PlaySteps
 pub mod CheckSteps
 pub mod Runs

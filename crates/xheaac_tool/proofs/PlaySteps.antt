@@ -25,9 +25,9 @@ use Rattle.au_stream.specs.Frames.{Frame, config_of, last_of, IsChange, IsSame}
 use Rattle.commands.specs.Commands.{Takes}
 use Rattle.commands.specs.Handing.{WrotePart}
 use Rattle.commands.specs.OneFrame.{CausedBy, Handles, DidFrame, DidPart, DidSome, from_core, from_device}
-use Rattle.xheaac_tool.specs.Output.{IsLater, IsNoStart, PlayRefuses, Changes, TooShort, NoStart, IsServed, playing}
+use Rattle.xheaac_tool.specs.Playing.{IsLater, IsNoStart, PlayRefuses, Changes, TooShort, NoStart, IsServed, playing}
 use Rattle.xheaac_tool.specs.Stepping.{PlayStands, IsOpenable, ServesReset, reset_of, set_up, bytes_for}
-use Rattle.xheaac_tool.proofs.Outputs.{play_grows, play_stands}
+use Rattle.xheaac_tool.proofs.Growing.{play_grows, play_stands}
 use Rattle.commands.proofs.Going.{append-none}
 use Rattle.core_iface.specs.declared.fault.CoreFault.{CoreFault}
 use Rattle.core_iface.specs.declared.fault.CoreFault.TheVariants as cores

@@ -10,7 +10,7 @@ use Rattle.tool_text.specs.Faults.{refusal_of_carry}
 use Rattle.au_stream.specs.Frames.{Frame}
 use Rattle.au_stream.specs.Segments.{Segment, Split}
 use Rattle.au_stream.specs.Script.{most_bytes}
-use Rattle.xheaac_tool.specs.declared.checked.Check.{Check}
+use Rattle.xheaac_tool.specs.declared.check_task.Check.{Check}
 use Rattle.commands.specs.declared.frame_end.FrameEnd.{FrameEnd}
 use Rattle.commands.specs.declared.frame_end.FrameEnd.TheVariants as ends
 use Rattle.xheaac_tool.specs.Reading.{ReadsUnit}

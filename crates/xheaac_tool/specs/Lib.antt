@@ -1,4 +1,4 @@
-pub mod Output
+pub mod Playing
 pub mod Stepping
 pub mod Showing
 pub mod Checking

@@ -12,7 +12,7 @@ use Rattle.tool_text.specs.declared.refusal.Place.TheVariants as places
 use Rattle.tool_text.specs.declared.refusal.Reason.TheVariants as reasons
 use Rattle.tool_text.specs.declared.refusal.Refusal.{Refusal}
 use Rattle.au_stream.specs.Frames.{Frame}
-use Rattle.xheaac_tool.specs.Output.{PlayRefuses}
+use Rattle.xheaac_tool.specs.Playing.{PlayRefuses}
 use Rattle.commands.specs.declared.frame_end.FrameEnd.{FrameEnd}
 use Rattle.commands.specs.declared.frame_end.FrameEnd.TheVariants as ends
 

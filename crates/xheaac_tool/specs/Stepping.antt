@@ -9,7 +9,7 @@ use Rattle.core_iface.specs.Answering.{Running, Meaning, running, stepped, emitt
 use Rattle.core_iface.specs.declared.fault.CoreFault.{CoreFault}
 use Rattle.core_iface.specs.Samples.{sample_bytes}
 use Rattle.au_stream.specs.Frames.{Frame, config_of}
-use Rattle.xheaac_tool.specs.Output.{units_of}
+use Rattle.xheaac_tool.specs.Playing.{units_of}
 
 -- Behind frames the core is ready at the configuration of the first one, decoded over their units from the start.
 abbrev pub PlayStands : Definitions → List Frame → Option Running → Type 0

@@ -6,7 +6,7 @@ ghost use Rattle.commands.specs.Calling.{Called};
 ghost use Rattle.commands.specs.OnInput.{on_file};
 ghost use Rattle.xheaac_tool.specs.Checking.{checking};
 
-use crate::checked::Check;
+use crate::check_task::Check;
 use crate::words::{Asked, read_words};
 use commands::{Frames, Outcome, run_file};
 use core_iface::Core;

@@ -5,15 +5,15 @@
 //! commands without their note, for a program that has its own.
 //!
 //! What they share is the crate `commands`: its runners go over the frames of a file for any task, and
-//! `shown`, `checked` and `played` are the tasks.
+//! `show_task`, `check_task` and `play_task` are the tasks.
 #![tactic(auto)]
 
 mod check;
-mod checked;
+mod check_task;
 mod play;
-mod played;
+mod play_task;
 mod show;
-mod shown;
+mod show_task;
 mod top;
 mod unit_frame;
 mod words;

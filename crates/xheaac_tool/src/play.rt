@@ -4,9 +4,9 @@ ghost use Rattle.xheaac_tool.specs.Words.{texts, IsPlay};
 ghost use Rattle.commands.specs.Worlds.{world};
 ghost use Rattle.commands.specs.Calling.{Called};
 ghost use Rattle.commands.specs.OnInput.{on_file};
-ghost use Rattle.xheaac_tool.specs.Output.{playing};
+ghost use Rattle.xheaac_tool.specs.Playing.{playing};
 
-use crate::played::Play;
+use crate::play_task::Play;
 use crate::words::{Asked, read_words};
 use commands::{Frames, Outcome, run_file};
 use core_iface::Core;
