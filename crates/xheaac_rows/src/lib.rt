@@ -16,4 +16,4 @@ mod refusals;
 #[cfg(test)]
 mod rows;
 #[cfg(test)]
-mod show_task;
+mod shown;

@@ -1,6 +1,6 @@
 // Worked rows of `show` at frames that are too short behind a StreamMuxConfig: its lines are written, and the frame's is not.
 use crate::cases::{Case, PLAIN, TWO_SLOTS, VERSION_1, check_output, ended};
-use crate::show_task::{
+use crate::shown::{
     DECLARED_LINES, FIRST_LINE, FIRST_LINES, MUX_LINE, PLAIN_LINES, TWO_SLOTS_LINE, VERSION_1_LINES,
 };
 use core_iface::{Core, FoldCore};
