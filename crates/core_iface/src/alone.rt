@@ -42,7 +42,7 @@ pub fn decode_alone<C: Core>(
     decoded
 }
 
-/// A refusal may stand behind some blocks.
+/// Decodes units from the start of a stream, and appends their blocks one by one. On error some of them may stand there.
 fn decode_onto<C: Core>(
     alloc: Global,
     core: &mut C,
