@@ -6,5 +6,5 @@ use Rattle.core_iface.proofs.tests.check_blocks.Given as goal
 abbrev pub invariant-loop-i : goal.invariant-loop-i
 invariant-loop-i g l = record {
   ready : IsSome l.core.ready;
-  fed : l.core.fed ≡ l.i-counter + 1;
+  fed : l.core.fed ≡ l.i + 1;
 }
