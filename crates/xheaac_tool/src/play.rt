@@ -35,5 +35,5 @@ pub fn do_play<H: Shelf, K: Sink, C: Core>(
     let Some(Asked::Play { file }) = read_words(words) else {
         unreachable!()
     };
-    run_file(alloc, &mut Frames(Play), file, shelf, out, core)
+    run_file(alloc, &mut Frames(Play::new(alloc)), file, shelf, out, core)
 }

@@ -24,9 +24,22 @@ use tool_text::{Place, Reason, Refusal, Within};
 use usac_cfg::UsacConfig;
 use usac_frame::{Frame, payload_length, unit_of};
 
-/// The frames of `play`.
+/// The frames of `play`. Of a frame that was played nothing is kept but the room of its samples and bytes.
 #[derive(Drop)]
-pub struct Play;
+pub struct Play {
+    samples: Vec<i16>,
+    bytes: Vec<u8>,
+}
+
+impl Play {
+    /// Before the first frame.
+    pub fn new(alloc: Global) -> Play {
+        Play {
+            samples: Vec::new(alloc),
+            bytes: Vec::new(alloc),
+        }
+    }
+}
 
 /// The refusal of a frame with that number, for that reason.
 fn at_frame(frame: u64, reason: Reason) -> Refusal
@@ -140,11 +153,17 @@ impl Task for Play {
         let config = &mux.asc.usac;
         let frame = read_taken(alloc, event, config)?;
         let unit = unit_of(alloc, config, &frame)?;
-        let mut samples = Vec::new(alloc);
-        decode(alloc, reset_of(event, config), &unit, core, &mut samples)?;
-        let mut bytes = Vec::new(alloc);
-        push_sample_bytes(&samples, &mut bytes)?;
-        give_all(out, &bytes)?;
+        self.samples.clear();
+        decode(
+            alloc,
+            reset_of(event, config),
+            &unit,
+            core,
+            &mut self.samples,
+        )?;
+        self.bytes.clear();
+        push_sample_bytes(&self.samples, &mut self.bytes)?;
+        give_all(out, &self.bytes)?;
         Ok(())
     }
 

@@ -27,7 +27,7 @@ returns-in_err-give_all-clause-handles g c = λ at before f event mux st.
     let is = reset_is before f c.args.event.now.frame (option_copied c.reset_of.result) c.args.mux.now.asc.usac event.number c.reset_of.ensures.first c.reset_of.ensures.later config in
     let unit = unit_here f c.args.mux.now.asc.usac c.args.event.now.au c.in_ok-frame.frame c.in_ok-unit.unit config event.au c.in_ok-frame.ensures.frame c.in_ok-unit.ensures in
     let d = c.in_ok-decode.ensures.decodes in
-    let bytes = bytes_are g.C.Core.does before f _ (option_copied c.reset_of.result) c.in_ok-unit.unit _ c.decode.new.samples.items _ c.deref-2.result.now is unit c.new-samples.ensures.items d.3 c.new-bytes.ensures.items (c.deref-2.ensures.value ∙ c.in_ok-push_sample_bytes.ensures.ok ∙ ap (λ s. c.new-bytes.result.items ++ sample_bytes s) c.deref.ensures.value) in
+    let bytes = bytes_are g.C.Core.does before f _ (option_copied c.reset_of.result) c.in_ok-unit.unit _ c.decode.new.samples.items _ c.deref-2.result.now is unit c.clear.ensures.items d.3 c.clear-2.ensures.items (c.deref-2.ensures.value ∙ c.in_ok-push_sample_bytes.ensures.ok ∙ ap (λ s. c.clear-2.new.self.items ++ sample_bytes s) c.deref.ensures.value) in
     rw (p.1, p.2) (play_stopped g.C.Core.does before f _ _ _ _ c.deref-2.result.now c.in_err-give_all.field-0.0 (c.in_ok-frame.ensures.judges before f event config) st d.2 bytes c.in_err-give_all.ensures.err)
 
 pub returns-clause-handles : goal.returns-clause-handles
@@ -36,7 +36,7 @@ returns-clause-handles g c = λ at before f event mux st.
     let is = reset_is before f c.args.event.now.frame (option_copied c.reset_of.result) c.args.mux.now.asc.usac event.number c.reset_of.ensures.first c.reset_of.ensures.later config in
     let unit = unit_here f c.args.mux.now.asc.usac c.args.event.now.au c.in_ok-frame.frame c.in_ok-unit.unit config event.au c.in_ok-frame.ensures.frame c.in_ok-unit.ensures in
     let d = c.in_ok-decode.ensures.decodes in
-    let bytes = bytes_are g.C.Core.does before f _ (option_copied c.reset_of.result) c.in_ok-unit.unit _ c.decode.new.samples.items _ c.deref-2.result.now is unit c.new-samples.ensures.items d.3 c.new-bytes.ensures.items (c.deref-2.ensures.value ∙ c.in_ok-push_sample_bytes.ensures.ok ∙ ap (λ s. c.new-bytes.result.items ++ sample_bytes s) c.deref.ensures.value) in
+    let bytes = bytes_are g.C.Core.does before f _ (option_copied c.reset_of.result) c.in_ok-unit.unit _ c.decode.new.samples.items _ c.deref-2.result.now is unit c.clear.ensures.items d.3 c.clear-2.ensures.items (c.deref-2.ensures.value ∙ c.in_ok-push_sample_bytes.ensures.ok ∙ ap (λ s. c.clear-2.new.self.items ++ sample_bytes s) c.deref.ensures.value) in
     play_did g.C.Core.does before f _ _ _ _ c.deref-2.result.now (c.in_ok-frame.ensures.judges before f event config) st d.2 bytes c.in_ok-give_all.ensures.ok
 
 pub returns-clause-stands : goal.returns-clause-stands
