@@ -222,11 +222,14 @@ impl AuReader {
         ensures some { IfOk result (λ config. 0 < length self.new.pending) }
         ensures well_formed { IfOk result (λ config. FitsOption IsWellFormed config) }
     {
-        let Places { config, slots } =
-            match read_places(alloc, self.in_force.as_ref(), self.frames.body(n)) {
-                Ok(places) => places,
-                Err(fault) => return Err(refused(self.count, fault)),
-            };
+        let Places { config, slots } = match read_places(
+            alloc,
+            self.in_force.as_ref(),
+            self.frames.body(n),
+        ) {
+            Ok(places) => places,
+            Err(fault) => return Err(refused(self.count, fault)),
+        };
         self.slots = slots;
         self.given = 0;
         self.length = n;

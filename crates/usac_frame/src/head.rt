@@ -27,12 +27,14 @@ impl FrameHead {
             return false;
         }
         match self.leading.get(0) {
-            Some(ExtPart::Present {
-                start,
-                stop,
-                payload,
-                ..
-            }) => payload.len() > 0 && *start && *stop,
+            Some(
+                ExtPart::Present {
+                    start,
+                    stop,
+                    payload,
+                    ..
+                },
+            ) => payload.len() > 0 && *start && *stop,
             _ => false,
         }
     }
@@ -55,11 +57,7 @@ fn read_head_fields(
 }
 
 /// Reads the head of an access unit of at most 16,777,216 bytes, with the faults of `read_frame`. Its rest is not copied.
-pub fn read_head(
-    alloc: Global,
-    config: &UsacConfig,
-    au: &[u8],
-) -> Result<FrameHead, FrameFault>
+pub fn read_head(alloc: Global, config: &UsacConfig, au: &[u8]) -> Result<FrameHead, FrameFault>
     requires { length au.now ≤ 16777216 }
     ensures { ReadsHead config.now au.now result }
 {

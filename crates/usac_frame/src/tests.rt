@@ -3,7 +3,7 @@ ghost use Rattle.usac_frame.specs.Frame.{FitsConfig};
 
 use crate::{
     ExtPart, Frame, FrameFault, LengthForm, Unit, first_payload, is_immediate, is_whole,
-    payload_length, read_frame, unit_of, write_frame,
+    payload_length, read_frame, read_head, unit_of, write_frame,
 };
 use bit_core::BitReader;
 use std::alloc::Global;
@@ -99,6 +99,14 @@ fn check_frame(rt: &(impl Abort + AllocGlobal), row: &FrameRow) -> Result<(), Fa
     assert_eq!(rt; is_whole(&frame), whole, "{text}");
     assert_eq!(rt;
         is_immediate(&config, &frame),
+        whole && !payload.is_empty(),
+        "{text}"
+    );
+    let head = read_head(rt.alloc(), &config, &au)?;
+    assert_eq!(rt; head.independent, true, "{text}");
+    assert_eq!(rt; head.leading.len(), 1, "{text}");
+    assert_eq!(rt;
+        head.is_immediate(&config),
         whole && !payload.is_empty(),
         "{text}"
     );

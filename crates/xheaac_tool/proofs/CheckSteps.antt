@@ -34,7 +34,7 @@ use Rattle.commands.specs.Handing.{WrotePart}
 use Rattle.xheaac_tool.specs.Reading.{ReadsUnit, IsJudgement}
 use Rattle.commands.specs.OneFrame.{Handles, DidFrame, DidPart, DidSome, DidRefuse, DidEnd, DidEndPart, HandlesEnd, from_device}
 use Rattle.xheaac_tool.specs.Checking.{ClosesCounted, CheckRefuses, TooShort, Uncarried, how_many, flag_of, is_independent, is_play_out, checking}
-use Rattle.xheaac_tool.specs.Counting.{HoldsCounts, AreFew, counted, EndsBy, KeepsRules, BreaksRule}
+use Rattle.xheaac_tool.specs.Counting.{HoldsCounts, AreFew, counted, EndsBy, KeepsRules, BreaksRule, IsGood, IsBad}
 use Rattle.commands.proofs.Going.{append-none}
 use Rattle.xheaac_tool.proofs.Lines.{frame_is, not_short, too_short}
 
@@ -131,6 +131,23 @@ check_unread before f m w event mux (ends.Refused r) e is bad =
 check_unread before f m w event mux ends.WriteFault e is bad = absurd bad
 check_unread before f m w event mux ends.CoreFault e is bad = absurd bad
 check_unread before f m w event mux (ends.Memory x) e is bad = out_of_memory before f m w
+
+-- an access unit is one frame at most
+same_frame : (c : UsacConfig) (au : List ℕ) (g h : UsacFrame) → IsFrame c au g → IsFrame c au h → g ≡ h
+same_frame c au g h p q = spelled_once c g h p.fits q.fits (sym p.spelled ∙ q.spelled)
+
+-- the frame that it is keeps the rules, where one that it is does
+pub good_keeps : (c : UsacConfig) (au : List ℕ) (h : UsacFrame) → IsFrame c au h → IsGood c au → KeepsRules c h
+good_keeps c au h is good = subst (λ (x : UsacFrame). KeepsRules c x) (same_frame c au good.0 h good.1 is) good.2
+
+-- it is immediate, and was not read, or its preroll breaks a rule
+pub check_bad : (before : List Frame) (f : Frame) (m : Meaning) (w : Option (List ℕ)) (event : Event) (mux : MuxConfig) (h : UsacFrame) (end : FrameEnd) → IsEvent before f event → mux ≡ f.mux → IsFrame mux.asc.usac event.au h → is_immediate mux.asc.usac h ≡ true
+    → IsBad event.frame mux.asc.usac event.au end → Handles checking before f m m w w (Err end)
+check_bad before f m w event mux h end e is frame immediate (inl unread) = check_unread before f m w event mux end e is unread
+check_bad before f m w event mux h end e is frame immediate (inr bad) =
+    let c = mux.asc.usac in
+    let same : bad.0 ≡ h = same_frame c event.au bad.0 h bad.1 frame in
+    check_broken before f m w c event.au event.frame bad.0 end (ap (λ (x : MuxConfig). x.asc.usac) is) e.au e.number bad.1 (ap (is_immediate c) same ∙ immediate, bad.2)
 
 -- a frame whose preroll breaks a rule is no fault of a device or of the core
 pub broken_is_judgement : (number : ℕ) (c : UsacConfig) (g : UsacFrame) (end : FrameEnd) → BreaksRule number c g end → IsJudgement end

@@ -1,8 +1,9 @@
 -- What `check` holds between two frames, and how it judges one.
-use Rattle.std.specs.Prelude.{◌≡◌, ℕ, ◌+◌, ◌≤◌, Bool, List, length, Some}
+use Rattle.std.specs.Prelude.{◌≡◌, ℕ, ◌+◌, ◌≤◌, ◌⊎◌, Bool, List, length, Some, Err}
 use Rattle.layout.specs.Text.{digit}
 use Rattle.usac_cfg.specs.declared.usac_config.UsacConfig.{UsacConfig}
 use Rattle.usac_frame.specs.declared.frame.Frame.{Frame as UsacFrame}
+use Rattle.usac_frame.specs.AccessUnit.{IsFrame}
 use Rattle.preroll.specs.declared.fault.CarryFault.{CarryFault}
 use Rattle.preroll.specs.Carried.{Breaks, IsFirst}
 use Rattle.tool_text.specs.Faults.{refusal_of_carry}
@@ -12,6 +13,7 @@ use Rattle.au_stream.specs.Script.{most_bytes}
 use Rattle.xheaac_tool.specs.declared.checked.Check.{Check}
 use Rattle.commands.specs.declared.frame_end.FrameEnd.{FrameEnd}
 use Rattle.commands.specs.declared.frame_end.FrameEnd.TheVariants as ends
+use Rattle.xheaac_tool.specs.Reading.{ReadsUnit}
 use Rattle.xheaac_tool.specs.Checking.{how_many, is_independent, is_play_out}
 
 -- These frames were counted.
@@ -56,3 +58,11 @@ BreaksRule number c g (ends.Refused r) = (e : CarryFault) × IsFirst c g e × (r
 BreaksRule number c g ends.WriteFault = ⊥
 BreaksRule number c g ends.CoreFault = ⊥
 BreaksRule number c g (ends.Memory a) = Unit {0}
+
+-- The access unit is a frame that breaks no rule of prerolls.
+abbrev pub IsGood : UsacConfig → List ℕ → Type 0
+IsGood c au = (g : UsacFrame) × IsFrame c au g × KeepsRules c g
+
+-- It is no frame, or one that breaks a rule, or memory fails.
+abbrev pub IsBad : ℕ → UsacConfig → List ℕ → FrameEnd → Type 0
+IsBad number c au end = ReadsUnit number c au (Err end) ⊎ ((g : UsacFrame) × IsFrame c au g × BreaksRule number c g end)

@@ -1,10 +1,12 @@
 -- What reading the frame of an access unit answers.
-use Rattle.std.specs.Prelude.{◌≡◌, ℕ, List, Result, Ok, Err}
+use Rattle.std.specs.Prelude.{◌≡◌, ℕ, Bool, List, Result, Ok, Err}
 use Rattle.layout.specs.Text.{bits_of}
 use Rattle.usac_cfg.specs.declared.usac_config.UsacConfig.{UsacConfig}
 use Rattle.usac_frame.specs.declared.frame.Frame.{Frame as UsacFrame}
 use Rattle.usac_frame.specs.declared.fault.FrameFault.TheVariants as faults
 use Rattle.usac_frame.specs.Frame.{FrameFaults}
+use Rattle.usac_frame.specs.declared.head.FrameHead.{FrameHead}
+use Rattle.usac_frame.specs.Head.{with_rest}
 use Rattle.usac_frame.specs.AccessUnit.{IsFrame}
 use Rattle.tool_text.specs.declared.refusal.Place.TheVariants as places
 use Rattle.tool_text.specs.declared.refusal.Reason.TheVariants as reasons
@@ -22,6 +24,11 @@ ReadsUnit number c au (Err (ends.Refused r)) =
 ReadsUnit number c au (Err ends.WriteFault) = ⊥
 ReadsUnit number c au (Err ends.CoreFault) = ⊥
 ReadsUnit number c au (Err (ends.Memory e)) = Unit {0}
+
+-- The same of a head: the access unit is a frame with that head.
+abbrev pub ReadsUnitHead : ℕ → UsacConfig → List ℕ → Result FrameHead FrameEnd → Type 0
+ReadsUnitHead number c au (Ok h) = (rest : List Bool) × IsFrame c au (with_rest h rest)
+ReadsUnitHead number c au (Err end) = ReadsUnit number c au (Err end)
 
 -- not a fault of a device or of the core
 abbrev pub IsJudgement : FrameEnd → Type 0

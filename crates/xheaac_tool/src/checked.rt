@@ -1,12 +1,13 @@
 // `check`, frame by frame: what is judged of a frame, and what is counted.
-ghost use Rattle.std.specs.Prelude.{◌≡◌, ◌+◌, ◌≤◌, [], true, OnOk, IfErr};
+ghost use Rattle.std.specs.Prelude.{◌≡◌, ◌+◌, ◌≤◌, [], length, OnOk, IfErr};
 ghost use Rattle.layout.specs.Text.{digit};
 ghost use Rattle.usac_cfg.specs.UsacConfig.{IsWellFormed};
 ghost use Rattle.usac_frame.specs.Frame.{FitsConfig};
 ghost use Rattle.au_stream.specs.Script.{most_bytes};
-ghost use Rattle.xheaac_tool.specs.Counting.{HoldsCounts, AreFew, counted, EndsBy, KeepsRules, BreaksRule};
+ghost use Rattle.xheaac_tool.specs.Reading.{IsJudgement};
+ghost use Rattle.xheaac_tool.specs.Counting.{HoldsCounts, AreFew, counted, EndsBy, KeepsRules, BreaksRule, IsGood, IsBad};
 
-use crate::unit_frame::read_unit_frame;
+use crate::unit_frame::{read_unit_frame, read_unit_head};
 use au_stream::Event;
 use commands::{FrameEnd, Task, give_all};
 use core_iface::Core;
@@ -16,7 +17,7 @@ use preroll::{CarryFault, carried};
 use std::alloc::{AllocError, Global};
 use tool_text::{Within, carry_refusal, check_line};
 use usac_cfg::UsacConfig;
-use usac_frame::{Frame, is_immediate};
+use usac_frame::Frame;
 
 /// The frames of `check`, as far as they were counted.
 #[derive(Drop)]
@@ -70,26 +71,29 @@ fn ended_by(number: u64, fault: &CarryFault) -> FrameEnd
     }
 }
 
-/// Judges the preroll of a frame that is immediate.
-fn judge(
-    alloc: Global,
-    number: u64,
-    config: &UsacConfig,
-    frame: &Frame,
-    immediate: bool,
-) -> Result<(), FrameEnd>
+/// Judges the preroll of a frame.
+fn judge(alloc: Global, number: u64, config: &UsacConfig, frame: &Frame) -> Result<(), FrameEnd>
     requires well_formed { IsWellFormed config.now }
     requires fits { FitsConfig config.now frame.now }
-    ensures ok { OnOk result (immediate ≡ true → KeepsRules config.now frame.now) }
-    ensures err { IfErr result (λ end. (immediate ≡ true) × BreaksRule number config.now frame.now end) }
+    ensures ok { OnOk result (KeepsRules config.now frame.now) }
+    ensures err { IfErr result (λ end. BreaksRule number config.now frame.now end) }
 {
-    if !immediate {
-        return Ok(());
-    }
     match carried(alloc, config, frame) {
         Ok(_) => Ok(()),
         Err(fault) => Err(ended_by(number, &fault)),
     }
+}
+
+/// Reads the whole frame that an access unit is, and judges its preroll.
+fn judge_unit(alloc: Global, number: u64, config: &UsacConfig, au: &[u8]) -> Result<(), FrameEnd>
+    requires well_formed { IsWellFormed config.now }
+    requires size { length au.now ≤ 8191 }
+    ensures ok { OnOk result (IsGood config.now au.now) }
+    ensures err { IfErr result (λ end. IsBad number config.now au.now end) }
+    ensures judges { IfErr result IsJudgement }
+{
+    let frame = read_unit_frame(alloc, number, config, au)?;
+    judge(alloc, number, config, &frame)
 }
 
 impl Task for Check {
@@ -121,10 +125,13 @@ impl Task for Check {
         let _ = out;
         let _ = core;
         let config = &mux.asc.usac;
-        let frame = read_unit_frame(alloc, event.frame, config, event.au.as_slice())?;
-        let immediate = is_immediate(config, &frame);
-        judge(alloc, event.frame, config, &frame, immediate)?;
-        self.count(event.changed, frame.independent, immediate);
+        let au = event.au.as_slice();
+        let head = read_unit_head(alloc, event.frame, config, au)?;
+        let immediate = head.is_immediate(config);
+        if immediate {
+            judge_unit(alloc, event.frame, config, au)?;
+        }
+        self.count(event.changed, head.independent, immediate);
         Ok(())
     }
 

@@ -11,9 +11,9 @@ ghost use Rattle.tool_text.specs.FrameLine.{frame_line};
 ghost use Rattle.commands.specs.Handing.{WrotePart};
 ghost use Rattle.xheaac_tool.specs.Showing.{joined, mux_where, payload_lines, preroll_where, frame_text};
 
-use crate::unit_frame::read_unit_frame;
+use crate::unit_frame::read_unit_head;
 use au_stream::Event;
-use bit_core::{Items, Octets};
+use bit_core::{Bits, Items, Octets};
 use commands::{FrameEnd, Task, give_all};
 use core_iface::Core;
 use latm::MuxConfig;
@@ -175,7 +175,13 @@ impl Task for Show {
         let _ = core;
         let config = &mux.asc.usac;
         give_mux(alloc, event.opens, mux, out)?;
-        let frame = read_unit_frame(alloc, event.frame, config, event.au.as_slice())?;
+        let head = read_unit_head(alloc, event.frame, config, event.au.as_slice())?;
+        // what is shown of a frame is in its head
+        let frame = Frame {
+            independent: head.independent,
+            leading: head.leading,
+            rest: Bits::new(alloc),
+        };
         give_frame(alloc, event, config, &frame, out)?;
         Ok(())
     }
