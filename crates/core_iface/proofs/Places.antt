@@ -1,12 +1,8 @@
 -- The places of ones, part by part.
-use Rattle.std.proofs.Common.{◌≡◌, ℕ, zero, suc, ◌+◌, ◌-◌, ◌*◌, ◌/◌, ◌%◌, ◌^◌, ◌<◌, ◌≤◌, Bool, true, false, List, [], ◌∷◌, ◌++◌, map, length, get_or, take, drop, refl, sym, ap, ◌∙◌, arith}
-use Rattle.std.specs.List.{range_with_len}
-use Rattle.std.proofs.Math.Nat.{div-div-eq-div-mul, mul-le-mul_left}
-use Rattle.std.proofs.lemmas.List.{length-append, length-take-le, length-take, take_all, append-nil, take-append-drop, drop-take, take-take, length-replicate}
-use Rattle.std.proofs.lemmas.Nat.{pow-add}
-use Rattle.std.proofs.lemmas.List.FromFn.{get_or-map-range_with_len}
+use Rattle.std.proofs.Common.{◌≡◌, ℕ, zero, suc, ◌+◌, ◌*◌, ◌/◌, ◌%◌, ◌<◌, ◌≤◌, Bool, true, false, List, [], ◌∷◌, ◌++◌, length, take, drop, refl, sym, ap, ◌∙◌, arith}
+use Rattle.std.proofs.lemmas.List.{length-append, length-take-le, take_all, take-append-drop, drop-take, take-take, length-replicate}
 use Rattle.layout.specs.Text.{num, value_after}
-use Rattle.layout.proofs.TextLemmas.{length-num, num-split, num-rem, num-value_after}
+use Rattle.layout.proofs.TextLemmas.{num-value_after}
 use Rattle.bit_core.specs.Words.{zeros}
 use Rattle.core_iface.specs.Folding.{places}
 

@@ -1,5 +1,5 @@
 -- The places of a word's ones, by counts of ones under masks.
-use Rattle.std.proofs.Common.{◌≡◌, ℕ, zero, suc, ◌+◌, ◌-◌, ◌*◌, ◌/◌, ◌%◌, ◌^◌, ◌<◌, ◌≤◌, Bool, true, false, List, [], ◌∷◌, ◌++◌, length, refl, sym, ap, ◌∙◌, arith, count_ones, bit_and, replicate, eqb}
+use Rattle.std.proofs.Common.{◌≡◌, ℕ, zero, suc, ◌+◌, ◌*◌, ◌/◌, ◌%◌, ◌^◌, ◌<◌, ◌≤◌, List, [], ◌∷◌, length, refl, sym, ap, ◌∙◌, arith, count_ones, bit_and, replicate, eqb}
 use lib.Count.{ones_step}
 use Rattle.std.proofs.lemmas.Nat.{and_shr, and_mod, and_le_l, and_le_r}
 use Rattle.std.proofs.Math.Nat.{mul-le-mul_left}
