@@ -13,7 +13,7 @@ use std::alloc::Global;
 use std::process::Abort;
 use std::test::Fail;
 use tool_text::Within;
-use vectors::{PLAIN, bytes_of};
+use vectors::{EIGHT_FRAMES, bytes_of};
 
 /// Writes a dot at the end of each file, and a dot where there is none.
 #[derive(Drop)]
@@ -111,8 +111,8 @@ fn shelf(alloc: Global) -> Result<MemShelf, Fail>
     ensures { IfOk result (λ shelf. ⟦<MemShelf as Shelf>⟧.begun shelf ≡ 0) }
 {
     let mut shelf = MemShelf::new(alloc, 8192, &[])?;
-    shelf.add("first", &bytes_of(alloc, PLAIN)?)?;
-    shelf.add("second", &bytes_of(alloc, PLAIN)?)?;
+    shelf.add("first", &bytes_of(alloc, EIGHT_FRAMES)?)?;
+    shelf.add("second", &bytes_of(alloc, EIGHT_FRAMES)?)?;
     shelf.add("none", b"\x00")?;
     Ok(shelf)
 }
