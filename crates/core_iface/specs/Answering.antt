@@ -47,6 +47,11 @@ abbrev pub emitted : Definitions → Option Running → UnitValue → List ℤ
 emitted d None u = []
 emitted d (Some r) u = d.emit r.config r.state u
 
+-- the samples that it drains
+abbrev pub drained : Definitions → Option Running → List ℤ
+drained d None = []
+drained d (Some r) = d.drain r.config r.state
+
 -- how it stands behind units
 abbrev pub stepped_over : Definitions → Option Running → List UnitValue → Option Running
 stepped_over d r [] = r

@@ -12,8 +12,12 @@ pub record Definitions : Type 1 where
   pub next : UsacConfig → List ℕ → UnitValue → List ℕ
   -- the block that is emitted for a unit
   pub emit : UsacConfig → List ℕ → UnitValue → List ℤ
+  -- the samples that are still to come behind the last unit
+  pub drain : UsacConfig → List ℕ → List ℤ
   -- the states that can occur
   pub sound : UsacConfig → List ℕ → Type 0
+  -- how many units before a unit its block may depend on, where the first of them is independent
+  pub warm : UsacConfig → ℕ
   -- the configurations at which a calm core does not fail
   pub serves : UsacConfig → Type 0
 

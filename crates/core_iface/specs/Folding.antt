@@ -55,7 +55,9 @@ fold_core = record {
   init = λ c. replicate (warm_of c + 1) 0;
   next = λ c s u. let v = value_of s u in v ∷ take (warm_of c) (v ∷ drop 1 s);
   emit = λ c s u. ramp (value_of s u + weighted 2 (past_of c s)) (channels c) (frame_length c);
+  drain = λ c s. ramp (weighted 2 (past_of c s)) (channels c) 128;
   sound = λ c s. (length s ≡ warm_of c + 1) × All (λ x. x < 32768) s;
+  warm = warm_of;
   serves = λ c. IsWellFormed c;
 }
 

@@ -11,12 +11,15 @@ use std::marker::Model;
 use usac_cfg::UsacConfig;
 use usac_frame::Unit;
 
+/// How many samples of each channel are drained.
+const DRAINED: u32 = 128;
+
 /// The example core, which decodes no audio. It never fails, but where memory runs out.
 ///
 /// The value of an independent unit is the sum of the places of its ones, modulo 32768; that of
 /// another unit takes in three times the value of the unit before. Its block is a ramp that starts
 /// at this value plus twice the value before, and with SBR three times the one before that, and at
-/// 4:1 four times the third.
+/// 4:1 four times the third. What is drained is a short ramp of the weighted values alone.
 #[derive(Drop)]
 pub struct FoldCore {
     /// None where the core is not ready.
@@ -56,12 +59,17 @@ impl FoldCore {
 
 impl Core for FoldCore {
     ghost use Rattle.core_iface.specs.Folding.{fold_core, meaning_of};
+    ghost use Rattle.core_iface.specs.FoldLaws.{fold_stays_sound, fold_emits_blocks, fold_warms_up};
 
     ghost does = { fold_core };
 
     ghost meaning = { meaning_of };
 
     ghost IsCalm = { λ _. Unit {0} };
+
+    fn warm_up(&self, config: &UsacConfig) -> u32 {
+        values_told(config) as u32
+    }
 
     fn faults(&self) -> u64 {
         0
@@ -84,7 +92,7 @@ impl Core for FoldCore {
             unreachable!()
         };
         let value = value_behind(self.context, unit);
-        let level = u32::from(value) + weighted_sum(&self.past[..warm_up(config)]);
+        let level = u32::from(value) + weighted_sum(&self.past[..values_told(config)]);
         if let Err(fault) = append_ramp(level, config.channels(), config.frame_length(), out) {
             self.config = None;
             return Err(CoreFault::from(fault));
@@ -94,10 +102,27 @@ impl Core for FoldCore {
         self.fed += 1;
         Ok(())
     }
+
+    fn flush(&mut self, _alloc: Global, out: &mut Vec<i16>) -> Result<(), CoreFault> {
+        let Some(config) = &self.config else {
+            unreachable!()
+        };
+        let level = weighted_sum(&self.past[..values_told(config)]);
+        let appended = append_ramp(level, config.channels(), DRAINED, out);
+        self.config = None;
+        appended?;
+        Ok(())
+    }
+
+    ghost stays_sound = { fold_stays_sound };
+
+    ghost emits_blocks = { fold_emits_blocks };
+
+    ghost warms_up = { fold_warms_up };
 }
 
 /// How many values of units before it a unit's block takes in.
-fn warm_up(config: &UsacConfig) -> usize
+fn values_told(config: &UsacConfig) -> usize
     requires { IsWellFormed config.now }
     ensures same { result ≡ warm_of config.now }
     ensures few { result ≤ 3 }

@@ -13,24 +13,33 @@ const UNITS: [(bool, &[u8]); 4] = [
     (false, &[1, 1]),
 ];
 
-// A configuration of one LFE element, and of the block of each unit the length, one place in its middle, and the samples at its
-// first, second, middle and last place.
+// A configuration of one LFE element with its warm-up; of the block of each unit the length, one place in its middle, and the
+// samples at its first, second, middle and last place; and of what is drained behind them the length, and the samples at its
+// first and last place.
 struct Row {
     config: &'static [u8],
+    warm_up: u32,
     length: usize,
     middle: usize,
     blocks: [[i16; 4]; 4],
+    drained: usize,
+    drain: [i16; 2],
 }
 
 // The levels of the blocks by the warm-up:
 //   1: 2, 9 + 2 * 2 = 13, 1 + 2 * 9 = 19, 6 + 2 * 1 = 8
 //   2: 2, 13, 19 + 3 * 2 = 25, 8 + 3 * 9 = 35
 //   3: 2, 13, 25, 35 + 4 * 2 = 43
+// The levels of what is drained:
+//   1: 2 * 6 = 12
+//   2: 12 + 3 * 1 = 15
+//   3: 15 + 4 * 9 = 51
 // The sample at place n * channels + c is the level + n * (c + 1).
 const ROWS: [Row; 5] = [
     // 1 channel, 1024 times, no SBR. Middle: n 500, level + 500. Last: level + 1023.
     Row {
         config: b"\x19\x08\x40",
+        warm_up: 1,
         length: 1024,
         middle: 500,
         blocks: [
@@ -39,10 +48,13 @@ const ROWS: [Row; 5] = [
             [19, 20, 519, 1042],
             [8, 9, 508, 1031],
         ],
+        drained: 128,
+        drain: [12, 139],
     },
     // 2 channels, 768 times, no SBR. Middle: n 500 of channel 1, level + 500 * 2. Last: level + 767 * 2.
     Row {
         config: b"\x18\x10\x40",
+        warm_up: 1,
         length: 1536,
         middle: 1001,
         blocks: [
@@ -51,10 +63,13 @@ const ROWS: [Row; 5] = [
             [19, 19, 1019, 1553],
             [8, 8, 1008, 1542],
         ],
+        drained: 256,
+        drain: [12, 266],
     },
     // 2 channels, 2048 times, 8:3. Middle: n 1500 of channel 0, level + 1500. Last: level + 2047 * 2.
     Row {
         config: b"\x1A\x10\x40",
+        warm_up: 2,
         length: 4096,
         middle: 3000,
         blocks: [
@@ -63,10 +78,13 @@ const ROWS: [Row; 5] = [
             [25, 25, 1525, 4119],
             [35, 35, 1535, 4129],
         ],
+        drained: 256,
+        drain: [15, 269],
     },
     // 3 channels by their positions, 2048 times, 2:1. Middle: n 1000 of channel 2, level + 1000 * 3. Last: level + 2047 * 3.
     Row {
         config: b"\x1B\x00\xC0\x11\x04",
+        warm_up: 2,
         length: 6144,
         middle: 3002,
         blocks: [
@@ -75,11 +93,14 @@ const ROWS: [Row; 5] = [
             [25, 25, 3025, 6166],
             [35, 35, 3035, 6176],
         ],
+        drained: 384,
+        drain: [15, 396],
     },
     // 24 channels, 4096 times, 4:1. Middle: n 2000 of channel 22, level + 2000 * 23 - 65536. Last: level + 4095 * 24 - 65536, which
     // is level + 32744, and 65536 less where that is above 32767.
     Row {
         config: b"\x1C\x68\x40",
+        warm_up: 3,
         length: 98304,
         middle: 48022,
         blocks: [
@@ -88,6 +109,8 @@ const ROWS: [Row; 5] = [
             [25, 25, -19511, -32767],
             [43, 43, -19493, -32749],
         ],
+        drained: 3072,
+        drain: [51, 3099],
     },
 ];
 
@@ -99,6 +122,25 @@ fn unit(alloc: Global, independent: bool, ones: &[u8]) -> Result<Unit, AllocErro
     Ok(Unit { independent, bits })
 }
 
+// The block of a unit.
+fn check_block(rt: &impl Abort, row: &Row, i: usize, out: &[i16]) {
+    assert!(rt; i < 4);
+    let [first, second, middle, last] = row.blocks[i];
+    assert_eq!(rt; out.len(), row.length, "unit {i}");
+    assert_eq!(rt; out.first().copied(), Some(first), "unit {i}");
+    assert_eq!(rt; out.get(1).copied(), Some(second), "unit {i}");
+    assert_eq!(rt; out.get(row.middle).copied(), Some(middle), "unit {i}");
+    assert_eq!(rt; out.last().copied(), Some(last), "unit {i}");
+}
+
+// What is drained behind the units.
+fn check_drain(rt: &impl Abort, row: &Row, out: &[i16]) {
+    let [first, last] = row.drain;
+    assert_eq!(rt; out.len(), row.drained);
+    assert_eq!(rt; out.first().copied(), Some(first));
+    assert_eq!(rt; out.last().copied(), Some(last));
+}
+
 // The core was fed a unit before it was reset.
 fn check_blocks(rt: &(impl Abort + AllocGlobal), row: &Row) -> Result<(), Fail> {
     let alloc = rt.alloc();
@@ -106,6 +148,7 @@ fn check_blocks(rt: &(impl Abort + AllocGlobal), row: &Row) -> Result<(), Fail> 
     let config = UsacConfig::read(alloc, &mut BitReader::new(row.config))?;
     let mut core = FoldCore::new();
     let mut out = Vec::new(alloc);
+    assert_eq!(rt; core.warm_up(&config), row.warm_up);
     core.reset(alloc, &config)?;
     let before = unit(alloc, true, &[0, 0, 0, 1])?;
     core.step(alloc, &before, &mut out)?;
@@ -115,13 +158,11 @@ fn check_blocks(rt: &(impl Abort + AllocGlobal), row: &Row) -> Result<(), Fail> 
         let unit = unit(alloc, independent, ones)?;
         out.clear();
         core.step(alloc, &unit, &mut out)?;
-        let [first, second, middle, last] = row.blocks[i];
-        assert_eq!(rt; out.len(), row.length, "unit {i}");
-        assert_eq!(rt; out.first().copied(), Some(first), "unit {i}");
-        assert_eq!(rt; out.get(1).copied(), Some(second), "unit {i}");
-        assert_eq!(rt; out.get(row.middle).copied(), Some(middle), "unit {i}");
-        assert_eq!(rt; out.last().copied(), Some(last), "unit {i}");
+        check_block(rt, row, i, &out);
     }
+    out.clear();
+    core.flush(alloc, &mut out)?;
+    check_drain(rt, row, &out);
     assert_eq!(rt; core.fed(), 5);
     assert_eq!(rt; core.faults(), 0);
     Ok(())

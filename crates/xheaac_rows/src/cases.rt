@@ -81,15 +81,20 @@ pub const WHOLE: Case<'static> = Case {
     fed: 2,
 };
 
-// The bytes of the samples of the three frames of `REOPENED`.
-pub fn samples(alloc: Global) -> Result<Vec<u8>, AllocError> {
+// The bytes of the samples of mono frames: those of each are its value, the value and 1, and so on.
+pub fn samples_of(alloc: Global, values: &[u16]) -> Result<Vec<u8>, AllocError> {
     let mut bytes = Vec::new(alloc);
-    for first in [2u16, 13, 20] {
+    for value in values {
         for time in 0..1024u16 {
-            bytes.extend_from_slice(&first.wrapping_add(time).to_le_bytes())?;
+            bytes.extend_from_slice(&value.wrapping_add(time).to_le_bytes())?;
         }
     }
     Ok(bytes)
+}
+
+// The bytes of the samples of the three frames of `REOPENED`.
+pub fn samples(alloc: Global) -> Result<Vec<u8>, AllocError> {
+    samples_of(alloc, &[2, 13, 20])
 }
 
 // Runs a case where the devices take and give pieces of a size, and that output is wanted.

@@ -1,10 +1,5 @@
-//! Worked streams through the commands, over devices in memory that fail where they are told to, and the
-//! core that the rows of faults take: [`FailingCore`] is the example core, but fails at one call.
+//! Worked streams through the commands, over devices in memory and cores that fail where they are told to. It is tests alone.
 #![tactic(auto)]
-
-mod failing_core;
-
-pub use failing_core::FailingCore;
 
 #[cfg(test)]
 mod cases;

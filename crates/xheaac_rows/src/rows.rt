@@ -1,16 +1,16 @@
 // Worked rows of `play`, and of the faults of each object.
 ghost use Rattle.std.specs.Prelude.{◌≤◌};
 
-use crate::FailingCore;
 use crate::cases::{
     CHANGED, Case, EMPTIED, PLAIN, REOPENED, TWO_SLOTS, TWO_SLOTS_LOST, TWO_SLOTS_REFUSED,
-    TWO_SLOTS_SHORT, USAGE, VERSION_1, WHOLE, check, ended, samples,
+    TWO_SLOTS_SHORT, USAGE, VERSION_1, WHOLE, check, check_output, ended, samples, samples_of,
 };
 use commands::Outcome;
-use core_iface::{Core, FoldCore};
+use core_iface::{Core, FaultyCore, FoldCore};
 use outside::{MemShelf, MemSink};
 use std::process::Abort;
 use std::test::Fail;
+use vectors::{EIGHT_FRAMES, bytes_of};
 use xheaac_tool::do_play;
 
 #[test]
@@ -133,8 +133,26 @@ fn the_core_fails(rt: HostRuntime) -> Result<(), Fail> {
         (4, WHOLE),
     ];
     for (failing, case) in rows {
-        check(&rt, 5000, case, &mut FailingCore::new(failing))?;
-        check(&rt, 1, case, &mut FailingCore::new(failing))?;
+        for piece in [5000, 1] {
+            let mut core = FaultyCore::new(rt.alloc(), FoldCore::new(), &[failing])?;
+            check(&rt, piece, case, &mut core)?;
+        }
+    }
+    Ok(())
+}
+
+#[test]
+fn the_core_fails_at_the_third_step(rt: HostRuntime) -> Result<(), Fail> {
+    let alloc = rt.alloc();
+    let bytes = bytes_of(alloc, EIGHT_FRAMES)?;
+    let wanted = samples_of(alloc, &[1, 7])?;
+    let case = Case {
+        bytes: &bytes,
+        ..ended(5, 4096, 2)
+    };
+    for piece in [5000, 1] {
+        let mut core = FaultyCore::new(alloc, FoldCore::new(), &[4])?;
+        check_output(&rt, piece, case, &wanted, &mut core)?;
     }
     Ok(())
 }

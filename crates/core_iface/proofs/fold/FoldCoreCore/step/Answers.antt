@@ -37,8 +37,8 @@ returns-clause-answers c =
     let past = c.self.inside.past in
     let value = c.value_behind-value.ensures past in
     let warm = warm_of config in
-    let few : warm ≤ 3 = rw (← c.warm_up.ensures.same) c.warm_up.ensures.few in
-    let sum = c.weighted_sum.ensures.sum ∙ ap (λ n. weighted 2 (take n past)) c.warm_up.ensures.same in
+    let few : warm ≤ 3 = rw (← c.values_told.ensures.same) c.values_told.ensures.few in
+    let sum = c.weighted_sum.ensures.sum ∙ ap (λ n. weighted 2 (take n past)) c.values_told.ensures.same in
     rw (← c.self.view_is, c.in-Some.is) record {
       ready = ap (λ ps. running config (c.value_behind-value.result ∷ ps)) (behind_new warm c.value_behind-value.result past few c.self.told)
           ∙ ap (λ v. running config (v ∷ take warm (v ∷ take warm past))) value;
