@@ -1,0 +1,4 @@
+pub mod Mixing
+pub mod Lengths
+pub mod Taken
+pub mod TurnLemmas

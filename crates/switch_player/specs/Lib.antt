@@ -1,0 +1,7 @@
+pub mod Blending
+pub mod Playing
+pub mod PlayerValue
+pub mod Faults
+pub mod Rules
+pub mod Turns
+pub mod Feeding
