@@ -75,7 +75,7 @@ carried_refused d b c g (Memory e) l h = tt
 carried_refused d b c g Stopped l h = absurd h
 
 -- an access unit is one frame
-one_frame : (c : UsacConfig) (au : List ℕ) (g h : Frame) → IsFrame c au g → IsFrame c au h → h ≡ g
+pub one_frame : (c : UsacConfig) (au : List ℕ) (g h : Frame) → IsFrame c au g → IsFrame c au h → h ≡ g
 one_frame c au g h i j = spelled_once c h g j.fits i.fits (sym j.spelled ∙ i.spelled)
 
 module _ (d : Definitions) (c : UsacConfig) (au : List ℕ) (g : Frame) (t : Turn) (i : IsFrame c au g) where

@@ -11,6 +11,7 @@
 mod blending;
 mod fault;
 mod judging;
+pub mod laws;
 mod player;
 #[cfg(test)]
 mod tests;
