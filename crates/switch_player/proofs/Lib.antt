@@ -1,0 +1,5 @@
+pub mod Mixing
+pub mod Lengths
+pub mod Taken
+pub mod RefusedOnce
+pub mod TurnLemmas
