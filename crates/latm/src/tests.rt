@@ -5,8 +5,8 @@ ghost use Rattle.latm.specs.MuxConfig.{IsWellFormed};
 ghost use Rattle.latm.specs.Written.{element_text};
 
 use crate::{
-    MuxConfig, MuxElement, MuxElements, MuxFault, MuxField, SlotPlace, Stream, WriteFault,
-    canonical, framed, read_element, read_places, write_element,
+    MuxConfig, MuxElement, MuxElements, MuxFault, MuxField, Stream, WriteFault, canonical, framed,
+    read_element, write_element,
 };
 use asc::{Asc, AscFault};
 use bit_core::{BitReader, BitWriter};
@@ -81,26 +81,6 @@ fn elements_are_read_under_the_configuration_in_force(rt: HostRuntime) -> Result
         }
         None => panic!(rt; "no configuration"),
     }
-    Ok(())
-}
-
-#[test]
-fn slots_are_found_where_they_stand(rt: HostRuntime) -> Result<(), Fail> {
-    let bytes = bytes_of(rt.alloc(), TWO_SLOTS)?;
-    assert!(rt; bytes.len() <= 64);
-    let places = read_places(rt.alloc(), None, &bytes)?;
-    assert!(rt; places.config.is_some());
-    assert_eq!(rt; places.slots.len(), 2);
-    let first = SlotPlace {
-        from: 116,
-        length: 1,
-    };
-    let second = SlotPlace {
-        from: 132,
-        length: 1,
-    };
-    assert!(rt; places.slots.get(0) == Some(&first));
-    assert!(rt; places.slots.get(1) == Some(&second));
     Ok(())
 }
 
