@@ -1,4 +1,5 @@
-//! Worked streams through the commands, over devices in memory and cores that fail where they are told to. It is tests alone.
+//! Worked streams through the commands, over devices in memory and cores that fail where they are told to. It is tests alone,
+//! and the program that docs/PLAYER.md shows.
 #![tactic(auto)]
 
 #[cfg(test)]
@@ -11,9 +12,14 @@ mod command_line;
 mod leading;
 #[cfg(test)]
 mod opened;
+mod program;
+#[cfg(test)]
+mod programs;
 #[cfg(test)]
 mod refusals;
 #[cfg(test)]
 mod rows;
 #[cfg(test)]
 mod shown;
+
+pub use program::play_source;
