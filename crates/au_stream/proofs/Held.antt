@@ -24,6 +24,9 @@ use Rattle.au_stream.specs.Elements.{IsElement}
 use Rattle.au_stream.specs.Reading.{Reading}
 use Rattle.au_stream.specs.Giving.{Tells, TookElement, Unread, Gave, past, refused_element}
 use Rattle.au_stream.specs.Held.{front_body, behind_read, slots_of, AreHeld, HoldsSlots, FoundSlots, IsNext, Passed, Opened}
+use Rattle.au_stream.specs.declared.event.EventHead.{EventHead}
+use Rattle.au_stream.specs.declared.event.Found.{Found}
+use Rattle.au_stream.specs.Views.{next_au, next_event, after_next}
 use Rattle.au_stream.proofs.Counting.{some_in_force, slots_fit}
 use Rattle.au_stream.proofs.Steps.{untaken}
 
@@ -155,6 +158,9 @@ some_pending before body p n framer h = omega (arith, slots_some before body p h
 pub is_left : (slots : List SlotPlace) (given n : ℕ) (framer : Framer) → 0 < length (slots_of (drop given slots) n framer) → given < length slots
 is_left slots given n framer some = omega (arith, some, length-map (drop given slots) (slot_at (bits_of (front_body n framer))), length-drop given slots)
 
+pub some_left : (slots : List SlotPlace) (given n : ℕ) (framer : Framer) → given < length slots → 0 < length (slots_of (drop given slots) n framer)
+some_left slots given n framer lt = omega (arith, lt, length-map (drop given slots) (slot_at (bits_of (front_body n framer))), length-drop given slots)
+
 -- it was copied
 pub is_next : (slots : List SlotPlace) (given n : ℕ) (framer : Framer) (in_force : Option MuxConfig) (count : ℕ) (failed : Bool) (p : SlotPlace) (body au : List ℕ) → slice_get slots given ≡ Some p → body ≡ front_body n framer → au ≡ slot_at (bits_of body) p
     → IsNext (reading (drop given slots) n framer in_force count failed) au
@@ -272,3 +278,34 @@ opened n old held put new config au opens changed event f next is tells some p m
             ∙ ap (λ (b : Bool). record (past n old) { in_force = then_in_force old.in_force e.config; pending = p.rest; opens = false; changed = b; count = old.count + 1 }) f.still;
       };
     }
+
+-- ---- the next one, where it is found and not yet passed
+
+split_first : (xs : List (List ℕ)) → 0 < length xs → xs ≡ get_or xs 0 [] ∷ drop 1 xs
+split_first [] lt = absurd (omega arith)
+split_first (x ∷ xs) lt = refl
+
+pub next_is_next : (r : Reading) → 0 < length r.pending → IsNext r (next_au r)
+next_is_next r lt = record { rest = drop 1 r.pending; pending = split_first r.pending lt }
+
+pub next_passed : (r : Reading) → 0 < length r.pending → Passed r (after_next r)
+next_passed r lt = record { slot = next_au r; rest = drop 1 r.pending; pending = split_first r.pending lt; left = refl }
+
+pub passed_is : (old new : Reading) → Passed old new → new ≡ after_next old
+passed_is old new p = p.left ∙ ap (λ (xs : List (List ℕ)). record old { pending = xs; count = old.count + 1 }) (sym (ap (λ (xs : List (List ℕ)). drop 1 xs) p.pending))
+
+pub next_is : (r : Reading) (au : List ℕ) → IsNext r au → au ≡ next_au r
+next_is r au n = sym (ap (λ (xs : List (List ℕ)). get_or xs 0 []) n.pending)
+
+-- one of the element that was read before
+pub gave_found : (r : Reading) (found : Found) → 0 < length r.pending → r.opens ≡ false → r.changed ≡ false → found.head ≡ record { frame = r.count; changed = false; opens = false } → Gave r (after_next r) (next_event r found.head)
+gave_found r found some shut still is =
+    gave r (after_next r) (next_au r) (next_event r found.head) shut still (next_is_next r some) (next_passed r some) (ap (λ (h : EventHead). next_event r h) is)
+
+-- the first one of an element
+pub opened_found : (n : ℕ) (old held put : Reading) (config : Option MuxConfig) (opens changed : Bool) (head : EventHead) → FoundSlots n old held config → 0 < length held.pending
+    → put ≡ record held { in_force = then_in_force held.in_force config } → Tells changed held.in_force config → opens ≡ is_some config → head ≡ record { frame = put.count; changed = changed; opens = opens } → Opened n old (after_next put) (next_event put head)
+opened_found n old held put config opens changed head f some is tells there made =
+    let same : put.pending ≡ held.pending = ap (λ (r : Reading). r.pending) is in
+    let more : 0 < length put.pending = omega (arith, some, ap (λ (xs : List (List ℕ)). length xs) same) in
+    opened n old held put (after_next put) config (next_au put) opens changed (next_event put head) f (subst (λ (xs : List (List ℕ)). IsNext held (get_or xs 0 [])) (sym same) (next_is_next held some)) is tells there (next_passed put more) (ap (λ (h : EventHead). next_event put h) made)

@@ -11,3 +11,4 @@ pub mod Marks
 pub mod SegmentLists
 pub mod Written
 pub mod Held
+pub mod Views

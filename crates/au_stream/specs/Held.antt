@@ -70,7 +70,3 @@ pub record Opened (n : ℕ) (old new : Reading) (event : Event) : Type 0 where
   pub between : Reading
   pub took : TookElement n old between
   pub gave : Gave between new event
-
-abbrev pub Opens : ℕ → Reading → Reading → Result Event StreamFault → Type 0
-Opens n old new (Ok event) = Opened n old new event
-Opens n old new (Err fault) = Unread n old fault

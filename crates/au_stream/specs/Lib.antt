@@ -7,6 +7,7 @@ pub mod Reading
 pub mod Giving
 pub mod Held
 pub mod Events
+pub mod Views
 pub mod Gathering
 pub mod Whole
 pub mod Pairs

@@ -6,6 +6,7 @@
 #![tactic(auto)]
 
 mod event;
+mod event_view;
 mod fault;
 mod frame_reader;
 mod gathered;
@@ -15,7 +16,8 @@ mod reader;
 mod tests;
 mod whole;
 
-pub use event::Event;
+pub use event::{Event, EventHead};
+pub use event_view::EventView;
 pub use fault::StreamFault;
 pub use reader::AuReader;
 pub use whole::read_stream;

@@ -12,10 +12,12 @@ ghost use Rattle.au_stream.specs.Taking.{seen, IsReadFault, Caused};
 ghost use Rattle.au_stream.specs.Reading.{HasRead};
 ghost use Rattle.latm.specs.MuxElement.{then_in_force};
 ghost use Rattle.au_stream.specs.Giving.{Tells, Falls, IsSmall};
-ghost use Rattle.au_stream.specs.Held.{FindsSlots, IsNext, Passed, Opens};
+ghost use Rattle.au_stream.specs.Held.{FindsSlots};
+ghost use Rattle.au_stream.specs.Views.{Finds, HasNext, IsSmallNext, FallsBehind, next_au, next_event, after_next, heads, IsCopied, Enters};
 ghost use Rattle.au_stream.specs.Events.{Reads};
 
-use crate::event::Event;
+use crate::event::{Event, EventHead, Found};
+use crate::event_view::EventView;
 use crate::fault::{StreamFault, refused};
 use crate::frame_reader::FrameReader;
 use asc::Asc;
@@ -90,6 +92,17 @@ fn is_change(in_force: &Option<MuxConfig>, config: &MuxConfig) -> bool
     }
 }
 
+// The heads of what was found.
+fn heads(answer: Result<Option<Found>, StreamFault>) -> Result<Option<EventHead>, StreamFault>
+    ensures { result ≡ heads answer }
+{
+    match answer {
+        Ok(Some(found)) => Ok(Some(found.head)),
+        Ok(None) => Ok(None),
+        Err(fault) => Err(fault),
+    }
+}
+
 impl AuReader {
     /// A reader that has read nothing.
     pub fn new(alloc: Global) -> AuReader
@@ -137,9 +150,63 @@ impl AuReader {
         if self.failed {
             return Ok(None);
         }
-        let result = self.advance(alloc, source);
+        let result = self.take(alloc, source);
         self.failed = result.is_err();
         result
+    }
+
+    /// Finds the next frame, as `next` gives it, and leaves its access unit where it stands: `view` shows it, and `pass` is to be
+    /// called before the next one is asked for. It is None where the source ends behind the last one, and from the first refusal on.
+    ///
+    /// # Errors
+    /// Those of `next`.
+    pub fn find<S: Source>(
+        &mut self,
+        alloc: Global,
+        source: &mut S,
+    ) -> Result<Option<EventHead>, StreamFault>
+        ensures finds { (got : List ℕ) (given : List Frame) → HasRead got given self.old →
+            Finds got given self.old self.new (seen S.left S.faults source.old) (seen S.left S.faults source.new) result }
+        ensures some { HasNext self.new result }
+        ensures small { (got : List ℕ) (given : List Frame) → HasRead got given self.old → IsSmallNext self.new result }
+        ensures after_fault { self.old.failed ≡ true → (result ≡ Ok None) × (self.new ≡ self.old) × (source.new ≡ source.old) }
+        ensures failed { self.old.failed ≡ false → IsTrue self.new.failed ↔ IsErr result }
+        ensures falls { FallsBehind self.old self.new result }
+        ensures caused { Caused (S.faults source.old) (S.faults source.new) result }
+        ensures other { S.other source.new ≡ S.other source.old }
+        ensures calm { S.calm source.old → S.calm source.new }
+        ensures calm_answers { S.calm source.old → IsReadFault result → ⊥ }
+    {
+        if self.failed {
+            return Ok(None);
+        }
+        let result = heads(self.advance(alloc, source, false));
+        self.failed = result.is_err();
+        result
+    }
+
+    /// The frame that was found and not yet passed. Its head is what `find` answered.
+    pub fn view(&self, head: EventHead) -> EventView<'_>
+        requires { 0 < length self.now.pending }
+        ensures { result ≡ next_event self.now head }
+    {
+        let Some(place) = self.slots.get(self.given) else {
+            unreachable!()
+        };
+        EventView::new(head, self.frames.body(self.length), *place)
+    }
+
+    /// Passes the frame that was found.
+    pub fn pass(&mut self)
+        requires { 0 < length self.old.pending }
+        ensures passed { self.new ≡ after_next self.old }
+        ensures few { self.new.count ≤ most_bytes }
+    {
+        self.given += 1;
+        if self.given == self.slots.len() {
+            self.frames.pass(self.length);
+        }
+        self.count += 1;
     }
 
     /// Whether a call was refused.
@@ -182,8 +249,8 @@ impl AuReader {
         }
     }
 
-    // The next frame, where no call was refused.
-    fn advance<S: Source>(
+    // Gives the next frame, where no call was refused.
+    fn take<S: Source>(
         &mut self,
         alloc: Global,
         source: &mut S,
@@ -198,31 +265,57 @@ impl AuReader {
         ensures calm { S.calm source.old → S.calm source.new }
         ensures calm_answers { S.calm source.old → IsReadFault result → ⊥ }
     {
+        let Some(found) = self.advance(alloc, source, true)? else {
+            return Ok(None);
+        };
+        self.pass();
+        Ok(Some(found.into_event()))
+    }
+
+    // Finds the next frame, where no call was refused, and copies its access unit where that is asked for.
+    fn advance<S: Source>(
+        &mut self,
+        alloc: Global,
+        source: &mut S,
+        copies: bool,
+    ) -> Result<Option<Found>, StreamFault>
+        ensures finds { (got : List ℕ) (given : List Frame) → HasRead got given self.old →
+            Finds got given self.old self.new (seen S.left S.faults source.old) (seen S.left S.faults source.new) (heads result) }
+        ensures some { HasNext self.new (heads result) }
+        ensures copied { IsCopied copies self.new result }
+        ensures kept { OnErr result (self.new.in_force ≡ self.old.in_force) }
+        ensures falls { FallsBehind self.old self.new (heads result) }
+        ensures going { self.new.failed ≡ self.old.failed }
+        ensures caused { Caused (S.faults source.old) (S.faults source.new) result }
+        ensures other { S.other source.new ≡ S.other source.old }
+        ensures calm { S.calm source.old → S.calm source.new }
+        ensures calm_answers { S.calm source.old → IsReadFault result → ⊥ }
+    {
         if self.given < self.slots.len() {
-            let au = self.next_slot(alloc)?;
-            return Ok(Some(self.give(au, false, false)));
+            let au = self.next_slot(alloc, copies)?;
+            return Ok(Some(self.found(au, false, false)));
         }
         let Some(length) = self.frames.next(source)? else {
             return Ok(None);
         };
-        let event = self.open(alloc, length)?;
-        Ok(Some(event))
+        let found = self.enter(alloc, length, copies)?;
+        Ok(Some(found))
     }
 
-    // Reads the element of the LOAS frame at the front, which has `n` bytes behind its header, and gives its first access
+    // Reads the element of the LOAS frame at the front, which has `n` bytes behind its header, and finds its first access
     // unit.
-    fn open(&mut self, alloc: Global, n: usize) -> Result<Event, StreamFault>
+    fn enter(&mut self, alloc: Global, n: usize, copies: bool) -> Result<Found, StreamFault>
         requires here { BeginsWithFrame n self.old.framer.held }
         requires none { self.old.pending ≡ [] }
-        ensures opens { Opens n self.old self.new result }
+        ensures enters { Enters n copies self.old self.new result }
         ensures kept { OnErr result (self.new.in_force ≡ self.old.in_force) }
         ensures going { self.new.failed ≡ self.old.failed }
     {
         let config = self.find_slots(alloc, n)?;
-        let au = self.next_slot(alloc)?;
+        let au = self.next_slot(alloc, copies)?;
         let opens = config.is_some();
         let changed = self.put_in_force(config);
-        Ok(self.give(au, opens, changed))
+        Ok(self.found(au, opens, changed))
     }
 
     // Finds the slots of that element. Its configuration, where it has one, is not yet in force.
@@ -261,34 +354,29 @@ impl AuReader {
         changed
     }
 
-    // A copy of the access unit that is next to be given.
-    fn next_slot(&self, alloc: Global) -> Result<Octets, AllocError>
+    // A copy of the access unit that is next to be given, where it is asked for, and else nothing.
+    fn next_slot(&self, alloc: Global, copies: bool) -> Result<Octets, AllocError>
         requires { 0 < length self.now.pending }
-        ensures { IfOk result (λ au. IsNext self.now au) }
+        ensures { IfOk result (λ au. copies ≡ true → au ≡ next_au self.now) }
     {
+        if !copies {
+            return Ok(Octets::new(alloc));
+        }
         let Some(place) = self.slots.get(self.given) else {
             unreachable!()
         };
         place.slot(alloc, self.frames.body(self.length))
     }
 
-    // Gives that access unit, and passes its frame where it is the last one of it.
-    fn give(&mut self, au: Octets, opens: bool, changed: bool) -> Event
-        requires { 0 < length self.old.pending }
-        ensures passed { Passed self.old self.new }
-        ensures event { result ≡ record { frame = self.old.count; changed = changed; opens = opens; au = au } }
+    // What is found of the frame that is next to be given.
+    fn found(&self, au: Octets, opens: bool, changed: bool) -> Found
+        ensures { result ≡ record { head = record { frame = self.now.count; changed = changed; opens = opens }; au = au } }
     {
-        let event = Event {
+        let head = EventHead {
             frame: self.count,
             changed,
             opens,
-            au,
         };
-        self.given += 1;
-        if self.given == self.slots.len() {
-            self.frames.pass(self.length);
-        }
-        self.count += 1;
-        event
+        Found { head, au }
     }
 }

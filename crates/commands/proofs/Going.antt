@@ -20,6 +20,8 @@ use Rattle.au_stream.specs.Script.{Mark, End, SyncLost, BadElement, Truncated, H
 use Rattle.au_stream.specs.Reading.{Reading, HasRead}
 use Rattle.au_stream.specs.Taking.{Seen}
 use Rattle.au_stream.specs.Events.{IsEvent, Answers, Reads}
+use Rattle.au_stream.specs.declared.event.EventHead.{EventHead}
+use Rattle.au_stream.specs.Views.{next_event, after_next}
 use Rattle.au_stream.proofs.FrameLists.{last-push}
 use Rattle.au_stream.proofs.Scripts.{frames_of_script}
 use Rattle.au_stream.proofs.Steps.{read_frames}
@@ -78,6 +80,15 @@ starts j laws H old left before reader read none = record {
   fed = omega arith;
   output = append-none before ∙ ap (λ (x : List ℕ). append_known before x) (sym laws.nothing);
 }
+
+-- a frame that was found, by its event
+pub shown : (got : List ℕ) (given : List Frame) (old new : Reading) (before now : Seen) (head : EventHead) (event : Event) → event ≡ next_event new head
+    → Reads got given old (after_next new) before now (Ok (Some (next_event new head))) → Reads got given old (after_next new) before now (Ok (Some event))
+shown got given old new before now head event is reads = subst (λ (e : Event). Reads got given old (after_next new) before now (Ok (Some e))) (sym is) reads
+
+-- the configuration in force is that of the last frame, behind the frame that was found
+pub in_force_there : (mux : Option MuxConfig) (new : Reading) → mux ≡ new.in_force → (taken : List ℕ) (fs : List Frame) → HasRead taken fs (after_next new) → mux ≡ option_map (λ (f : Frame). f.mux) (last_of fs)
+in_force_there mux new is taken fs read = is ∙ read.last
 
 -- the frame of an event
 pub record Next (got : List ℕ) (given : List Frame) (new : Reading) (event : Event) (mux : MuxConfig) : Type 0 where

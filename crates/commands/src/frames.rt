@@ -98,8 +98,8 @@ pub fn run_source<T: Task, S: Source, K: Sink, C: Core>(
     T::is_command::<C>();
     let mut reader = AuReader::new(alloc);
     'frames: loop {
-        let event = match reader.next(alloc, source) {
-            Ok(Some(event)) => event,
+        let head = match reader.find(alloc, source) {
+            Ok(Some(head)) => head,
             Ok(None) => {
                 let within = task.within::<C>();
                 return closed_by(alloc, within, task.close::<K, C>(alloc, out));
@@ -110,10 +110,11 @@ pub fn run_source<T: Task, S: Source, K: Sink, C: Core>(
             unreachable!()
         };
         let within = task.within::<C>();
-        match task.handle(alloc, &event, mux, out, core) {
+        match task.handle(alloc, &reader.view(head), mux, out, core) {
             Ok(()) => {}
             Err(end) => return stopped_by(alloc, within, end),
         }
+        reader.pass();
     }
 }
 

@@ -10,7 +10,7 @@ ghost use Rattle.commands.specs.Commands.{Command, IsCommand, Takes};
 ghost use Rattle.commands.specs.OneFrame.{Handles, CausedBy, HandlesEnd};
 
 use crate::frame_end::FrameEnd;
-use au_stream::Event;
+use au_stream::EventView;
 use core_iface::Core;
 use latm::MuxConfig;
 use outside::Sink;
@@ -44,7 +44,7 @@ pub trait Task {
     fn handle<K: Sink, C: Core>(
         &mut self,
         alloc: Global,
-        event: &Event,
+        event: &EventView,
         mux: &MuxConfig,
         out: &mut K,
         core: &mut C,

@@ -5,7 +5,7 @@ use crate::{
     Alone, FrameEnd, Frames, Input, Inputs, Outcome, PieceFrames, Task, Whole, WholeInput,
     give_all, run_file, run_files, run_none,
 };
-use au_stream::Event;
+use au_stream::EventView;
 use core_iface::{Core, FoldCore};
 use latm::{MuxConfig, Stream};
 use outside::{DeviceFault, MemShelf, MemSink, Shelf, Sink};
@@ -49,7 +49,7 @@ impl Task for Dots {
     fn handle<K: Sink, C: Core>(
         &mut self,
         alloc: Global,
-        event: &Event,
+        event: &EventView,
         mux: &MuxConfig,
         out: &mut K,
         core: &mut C,

@@ -51,7 +51,7 @@ bytes_in-small zero bits i le = omega arith
 bytes_in-small (suc n) bits zero le = (front_byte n bits le).0
 bytes_in-small (suc n) bits (suc i) le = bytes_in-small n (drop 8 bits) i (others_there n bits le)
 
-bits_of-bytes_in : (n : ℕ) (bits : List Bool) → 8 * n ≤ length bits → bits_of (bytes_in n bits) ≡ take (8 * n) bits
+pub bits_of-bytes_in : (n : ℕ) (bits : List Bool) → 8 * n ≤ length bits → bits_of (bytes_in n bits) ≡ take (8 * n) bits
 unfolding bytes_in bits_of
 bits_of-bytes_in zero bits le = refl
 bits_of-bytes_in (suc n) bits le =

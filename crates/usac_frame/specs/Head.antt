@@ -8,7 +8,7 @@ use Rattle.usac_frame.specs.declared.fault.FrameFault.{FrameFault}
 use Rattle.usac_frame.specs.declared.frame.Frame.{Frame}
 use Rattle.usac_frame.specs.declared.head.FrameHead.{FrameHead}
 use Rattle.usac_frame.specs.Faults.{is_memory}
-use Rattle.usac_frame.specs.Frame.{frame, FrameFaults}
+use Rattle.usac_frame.specs.Frame.{frame, frame_text, FitsConfig, FrameFaults}
 use Rattle.usac_frame.specs.AccessUnit.{IsFrame}
 
 -- the frame of a head and a rest
@@ -24,3 +24,8 @@ GivesHead c old new (Err f) = (is_memory f ≡ false → let L = frame c in L.re
 abbrev pub ReadsHead : UsacConfig → List ℕ → Result FrameHead FrameFault → Type 0
 ReadsHead c au (Ok h) = (rest : List Bool) × IsFrame c au (with_rest h rest)
 ReadsHead c au (Err f) = is_memory f ≡ false → FrameFaults c f (bits_of au)
+
+-- The same of what is left to a reader: a frame with this head is spelled there, or this is the first fault.
+abbrev pub ReadsHeadAt : UsacConfig → Reader → Result FrameHead FrameFault → Type 0
+ReadsHeadAt c r (Ok h) = (rest : List Bool) × FitsConfig c (with_rest h rest) × (left r ≡ frame_text c (with_rest h rest))
+ReadsHeadAt c r (Err f) = is_memory f ≡ false → let L = frame c in L.Faults r.at f (left r)

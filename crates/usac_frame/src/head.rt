@@ -1,6 +1,6 @@
 ghost use Rattle.std.specs.Prelude.{◌≡◌, ◌≤◌, List, Bool, length};
 ghost use Rattle.usac_frame.specs.Units.{is_immediate};
-ghost use Rattle.usac_frame.specs.Head.{with_rest, GivesHead, ReadsHead};
+ghost use Rattle.usac_frame.specs.Head.{with_rest, GivesHead, ReadsHead, ReadsHeadAt};
 
 use crate::fault::FrameFault;
 use crate::part::{ExtPart, Parts};
@@ -62,5 +62,18 @@ pub fn read_head(alloc: Global, config: &UsacConfig, au: &[u8]) -> Result<FrameH
     ensures { ReadsHead config.now au.now result }
 {
     let mut reader = BitReader::new(au);
-    read_head_fields(alloc, config, &mut reader)
+    read_head_at(alloc, config, &mut reader)
+}
+
+/// Reads the head of the access unit that all bits left to a reader are. On error some fields may already be consumed.
+///
+/// Errors: those of `read_frame`, whose places count as the reader counts them.
+pub fn read_head_at(
+    alloc: Global,
+    config: &UsacConfig,
+    reader: &mut BitReader,
+) -> Result<FrameHead, FrameFault>
+    ensures { ReadsHeadAt config.now reader.old result }
+{
+    read_head_fields(alloc, config, reader)
 }

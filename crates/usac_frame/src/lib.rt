@@ -22,7 +22,7 @@ mod writing;
 
 pub use fault::FrameFault;
 pub use frame::{Frame, read_frame, write_frame};
-pub use head::{FrameHead, read_head};
+pub use head::{FrameHead, read_head, read_head_at};
 pub use immediate::{first_payload, is_immediate, is_whole};
 pub use part::{ExtPart, LengthForm, Parts};
 pub use unit::{Unit, payload_length, unit_of};

@@ -2,8 +2,8 @@ use Rattle.std.proofs.Common.{◌≡◌, ◌<◌, Some, length, sym, subst}
 use Rattle.std.specs.Prelude.{slice_get}
 use Rattle.std.proofs.lemmas.Result.{IfOk-weaker}
 use Rattle.au_stream.specs.Reading.{Reading}
-use Rattle.au_stream.specs.Held.{IsNext}
-use Rattle.au_stream.proofs.Held.{is_left, is_next, next_held, next_within, never_none}
+use Rattle.au_stream.specs.Views.{next_au}
+use Rattle.au_stream.proofs.Held.{is_left, is_next, next_is, next_held, next_within, never_none}
 use Rattle.au_stream.proofs.reader.AuReader.next_slot.Goals as goal
 
 pub body-requires : goal.body-requires
@@ -29,5 +29,5 @@ returns c =
     let i = c.self.inside in
     let here : slice_get i.slots i.given ≡ Some c.in-Some.place.now = sym c.in-Some.ensures in
     IfOk-weaker c.slot.result _ _
-    (λ au copied. subst (λ (r : Reading). IsNext r au) c.self.view_is (is_next i.slots i.given i.length i.frames i.in_force i.count i.failed c.in-Some.place.now c.body.result.now au here c.body.ensures copied))
+    (λ au copied asked. subst (λ (r : Reading). au ≡ next_au r) c.self.view_is (next_is _ au (is_next i.slots i.given i.length i.frames i.in_force i.count i.failed c.in-Some.place.now c.body.result.now au here c.body.ensures copied)))
     c.slot.ensures

@@ -1,9 +1,9 @@
 use Rattle.std.proofs.Common.{◌≡◌, ℕ, ◌+◌, ◌<◌, ◌≤◌, length, ◌∙◌, arith}
 use Rattle.loas.specs.Framer.{past_frame, pushed}
 use Rattle.au_stream.specs.Script.{most_bytes}
-use Rattle.au_stream.proofs.Held.{is_left, next_held, pushed_past, passed_more, passed_last, holds_more, holds_last}
-use Rattle.au_stream.proofs.reader.AuReader.give.Goals.{then-self-len, else-self-len}
-use Rattle.au_stream.proofs.reader.AuReader.give.Goals as goal
+use Rattle.au_stream.proofs.Held.{is_left, next_held, pushed_past, passed_more, passed_last, passed_is, holds_more, holds_last}
+use Rattle.au_stream.proofs.reader.AuReader.pass.Goals.{then-self-len, else-self-len}
+use Rattle.au_stream.proofs.reader.AuReader.pass.Goals as goal
 
 pub pass-requires : goal.pass-requires
 pass-requires c =
@@ -31,8 +31,8 @@ returns-clause-passed c =
     let i = c.self.inside in
     let lt : i.given < length i.slots = is_left i.slots i.given i.length i.frames (rw (← c.self.view_is) at c.requires) in
     elim c.if-self-len.branch [
-      | then-self-len w ↦ rw (← c.self.view_is, w.self-inside-is, w.pass.ensures) (passed_last i.slots i.given i.length i.frames i.in_force i.count i.failed (w.if-self-len.true ∙ c.len.ensures))
+      | then-self-len w ↦ rw (← c.self.view_is, w.self-inside-is, w.pass.ensures) (passed_is _ _ (passed_last i.slots i.given i.length i.frames i.in_force i.count i.failed (w.if-self-len.true ∙ c.len.ensures)))
       | else-self-len w ↦
           let more : i.given + 1 < length i.slots = omega (arith, lt, c.len.ensures, w.if-self-len.false) in
-          rw (← c.self.view_is, w.self-inside-is) (passed_more i.slots i.given i.length i.frames i.in_force i.count i.failed more)
+          rw (← c.self.view_is, w.self-inside-is) (passed_is _ _ (passed_more i.slots i.given i.length i.frames i.in_force i.count i.failed more))
     ]
