@@ -24,5 +24,5 @@ AreRuns c ((f ∷ fs) ∷ rs) = Differ c (Some f.config) × AreOf f.config (f �
 
 -- The segments of frames are all of the frames, and such runs.
 pub record AreTheirSegments : Type 0 where
-  pub splice : (fs : List Shown) → splice (own fs) ≡ fs
+  pub all : (fs : List Shown) → splice (own fs) ≡ fs
   pub runs : (fs : List Shown) → AreRuns None (segments fs)

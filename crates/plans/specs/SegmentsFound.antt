@@ -57,4 +57,4 @@ splice_own [] = refl
 splice_own (f ∷ fs) = splice_before f (segments fs) ∙ ap (λ gs. f ∷ gs) (splice_own fs)
 
 pub are_their_segments : AreTheirSegments
-are_their_segments = record { splice = splice_own; runs = runs_of }
+are_their_segments = record { all = splice_own; runs = runs_of }
