@@ -1,5 +1,9 @@
 pub mod Blending
 pub mod Playing
+pub mod PlayingFound
+pub mod Streams
+pub mod Cuts
+pub mod CarriedFound
 pub mod PlayerValue
 pub mod Faults
 pub mod Rules
