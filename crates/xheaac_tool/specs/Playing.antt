@@ -3,7 +3,7 @@ use Rattle.std.specs.Prelude.{◌≡◌, ◌+◌, ℕ, true, List, ◌++◌, len
 use Rattle.std.specs.Option.{option_map}
 use Rattle.usac_cfg.specs.declared.usac_config.UsacConfig.{UsacConfig}
 use Rattle.preroll.specs.Carrying.{Shown, shown}
-use Rattle.plans.specs.Plans.{own}
+use Rattle.plans.specs.Segments.{own}
 use Rattle.core_iface.specs.Decoding.{Definitions, samples_of}
 use Rattle.core_iface.specs.Samples.{sample_bytes}
 use Rattle.switch_player.specs.declared.fault.PlayFault.{PlayFault}

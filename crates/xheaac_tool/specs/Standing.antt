@@ -3,8 +3,7 @@ use Rattle.std.specs.Prelude.{◌≡◌, List, map, false, Option, None}
 use Rattle.core_iface.specs.Decoding.{Definitions}
 use Rattle.core_iface.specs.Answering.{Running}
 use Rattle.switch_player.specs.PlayerValue.{PlayerValue}
-use Rattle.switch_player.specs.Playing.{standing}
-use Rattle.switch_player.specs.Cuts.{state_over}
+use Rattle.switch_player.specs.Playing.{state_over, standing}
 use Rattle.switch_player.specs.Feeding.{IsInStep}
 use Rattle.au_stream.specs.Frames.{Frame}
 use Rattle.xheaac_tool.specs.Playing.{play_shown, last_config}
