@@ -10,3 +10,4 @@ pub mod Rules
 pub mod Laws
 pub mod Turns
 pub mod Feeding
+pub mod SegmentedFound
