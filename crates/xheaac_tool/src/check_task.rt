@@ -8,7 +8,7 @@ ghost use Rattle.xheaac_tool.specs.Reading.{IsJudgement};
 ghost use Rattle.xheaac_tool.specs.Counting.{HoldsCounts, AreFew, counted, EndsBy, KeepsRules, BreaksRule, IsGood, IsBad};
 
 use crate::unit_frame::{read_unit_frame, read_unit_head};
-use au_stream::Event;
+use au_stream::EventView;
 use commands::{FrameEnd, Task, give_all};
 use core_iface::Core;
 use latm::MuxConfig;
@@ -85,15 +85,15 @@ fn judge(alloc: Global, number: u64, config: &UsacConfig, frame: &Frame) -> Resu
 }
 
 /// Reads the whole frame that an access unit is, and judges its preroll.
-fn judge_unit(alloc: Global, number: u64, config: &UsacConfig, au: &[u8]) -> Result<(), FrameEnd>
+fn judge_unit(alloc: Global, event: &EventView, config: &UsacConfig) -> Result<(), FrameEnd>
     requires well_formed { IsWellFormed config.now }
-    requires size { length au.now ≤ 8191 }
-    ensures ok { OnOk result (IsGood config.now au.now) }
-    ensures err { IfErr result (λ end. IsBad number config.now au.now end) }
+    requires size { length event.now.au ≤ 8191 }
+    ensures ok { OnOk result (IsGood config.now event.now.au) }
+    ensures err { IfErr result (λ end. IsBad event.now.frame config.now event.now.au end) }
     ensures judges { IfErr result IsJudgement }
 {
-    let frame = read_unit_frame(alloc, number, config, au)?;
-    judge(alloc, number, config, &frame)
+    let frame = read_unit_frame(alloc, event, config)?;
+    judge(alloc, event.frame(), config, &frame)
 }
 
 impl Task for Check {
@@ -117,7 +117,7 @@ impl Task for Check {
     fn handle<K: Sink, C: Core>(
         &mut self,
         alloc: Global,
-        event: &Event,
+        event: &EventView,
         mux: &MuxConfig,
         out: &mut K,
         core: &mut C,
@@ -125,13 +125,12 @@ impl Task for Check {
         let _ = out;
         let _ = core;
         let config = &mux.asc.usac;
-        let au = event.au.as_slice();
-        let head = read_unit_head(alloc, event.frame, config, au)?;
+        let head = read_unit_head(alloc, event, config)?;
         let immediate = head.is_immediate(config);
         if immediate {
-            judge_unit(alloc, event.frame, config, au)?;
+            judge_unit(alloc, event, config)?;
         }
-        self.count(event.changed, head.independent, immediate);
+        self.count(event.changed(), head.independent, immediate);
         Ok(())
     }
 

@@ -2,7 +2,7 @@
 ghost use Rattle.std.specs.Prelude.{◌≡◌, None, false};
 
 use crate::play_end::end_of;
-use au_stream::Event;
+use au_stream::EventView;
 use commands::{FrameEnd, Task, give_all};
 use core_iface::{Core, push_sample_bytes};
 use latm::MuxConfig;
@@ -55,16 +55,16 @@ impl Task for Play {
     fn handle<K: Sink, C: Core>(
         &mut self,
         alloc: Global,
-        event: &Event,
+        event: &EventView,
         mux: &MuxConfig,
         out: &mut K,
         core: &mut C,
     ) -> Result<(), FrameEnd> {
         let config = &mux.asc.usac;
-        let au = event.au.as_slice();
+        let au = event.au(alloc)?;
         self.samples.clear();
-        if let Err(fault) = self.player.feed(alloc, core, config, au, &mut self.samples) {
-            return Err(end_of(event.frame, fault));
+        if let Err(fault) = self.player.feed(alloc, core, config, au.as_slice(), &mut self.samples) {
+            return Err(end_of(event.frame(), fault));
         }
         self.bytes.clear();
         push_sample_bytes(&self.samples, &mut self.bytes)?;

@@ -12,7 +12,7 @@ ghost use Rattle.commands.specs.Handing.{WrotePart};
 ghost use Rattle.xheaac_tool.specs.Showing.{joined, mux_where, payload_lines, preroll_where, frame_text};
 
 use crate::unit_frame::read_unit_head;
-use au_stream::Event;
+use au_stream::EventView;
 use bit_core::{Bits, Items, Octets};
 use commands::{FrameEnd, Task, give_all};
 use core_iface::Core;
@@ -69,7 +69,7 @@ fn give_mux<K: Sink>(
 /// Writes the line of a frame. A fault may come behind a part of it.
 fn give_line<K: Sink>(
     alloc: Global,
-    event: &Event,
+    event: &EventView,
     frame: &Frame,
     out: &mut K,
 ) -> Result<(), DeviceFault>
@@ -79,7 +79,7 @@ fn give_line<K: Sink>(
     ensures calm { K.calm out.old → K.calm out.new }
     ensures calm_answers { K.calm out.old → IsFailed result → ⊥ }
 {
-    let line = match frame_line(alloc, event.frame, event.au.len(), frame) {
+    let line = match frame_line(alloc, event.frame(), event.len(), frame) {
         Ok(line) => line,
         Err(error) => return Err(DeviceFault::Memory(error)),
     };
@@ -130,7 +130,7 @@ fn give_preroll<K: Sink>(
 /// Writes the line of a frame and those of its preroll, each in one write. A fault may come behind a part of them.
 fn give_frame<K: Sink>(
     alloc: Global,
-    event: &Event,
+    event: &EventView,
     config: &UsacConfig,
     frame: &Frame,
     out: &mut K,
@@ -167,15 +167,15 @@ impl Task for Show {
     fn handle<K: Sink, C: Core>(
         &mut self,
         alloc: Global,
-        event: &Event,
+        event: &EventView,
         mux: &MuxConfig,
         out: &mut K,
         core: &mut C,
     ) -> Result<(), FrameEnd> {
         let _ = core;
         let config = &mux.asc.usac;
-        give_mux(alloc, event.opens, mux, out)?;
-        let head = read_unit_head(alloc, event.frame, config, event.au.as_slice())?;
+        give_mux(alloc, event.opens(), mux, out)?;
+        let head = read_unit_head(alloc, event, config)?;
         // what is shown of a frame is in its head
         let frame = Frame {
             independent: head.independent,

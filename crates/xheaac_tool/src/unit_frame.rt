@@ -2,11 +2,12 @@
 ghost use Rattle.std.specs.Prelude.{◌≡◌, ◌≤◌, length, IfErr};
 ghost use Rattle.xheaac_tool.specs.Reading.{ReadsUnit, ReadsUnitHead, IsJudgement};
 
+use au_stream::EventView;
 use commands::FrameEnd;
 use std::alloc::Global;
 use tool_text::{Place, Reason, Refusal};
 use usac_cfg::UsacConfig;
-use usac_frame::{Frame, FrameFault, FrameHead, read_frame, read_head};
+use usac_frame::{Frame, FrameFault, FrameHead, read_frame, read_head, read_head_at};
 
 /// How a command ends at the frame with that number, which lacks bits from that bit on.
 pub fn too_short(number: u64, at: u64) -> FrameEnd
@@ -21,39 +22,56 @@ pub fn too_short(number: u64, at: u64) -> FrameEnd
     })
 }
 
-/// Reads the frame that the access unit with that number is. One that is none is refused at the first bit of its leftmost
-/// field that lacks bits.
+/// Reads the frame that an access unit is. One that is none is refused at the first bit of its leftmost field that lacks bits.
 pub fn read_unit_frame(
     alloc: Global,
-    number: u64,
+    event: &EventView,
     config: &UsacConfig,
-    au: &[u8],
 ) -> Result<Frame, FrameEnd>
-    requires { length au.now ≤ 8191 }
-    ensures reads { ReadsUnit number config.now au.now result }
+    requires { length event.now.au ≤ 8191 }
+    ensures reads { ReadsUnit event.now.frame config.now event.now.au result }
     ensures judges { IfErr result IsJudgement }
 {
-    match read_frame(alloc, config, au) {
+    let au = event.au(alloc)?;
+    match read_frame(alloc, config, au.as_slice()) {
         Ok(frame) => Ok(frame),
-        Err(FrameFault::Short { at }) => Err(too_short(number, at)),
+        Err(FrameFault::Short { at }) => Err(too_short(event.frame(), at)),
         Err(FrameFault::Memory(error)) => Err(FrameEnd::Memory(error)),
     }
 }
 
-/// Reads the head of the frame that the access unit with that number is, with the refusals of `read_unit_frame`.
+/// Reads the head of the frame that an access unit is, where it stands, with the refusals of `read_unit_frame`.
 pub fn read_unit_head(
     alloc: Global,
-    number: u64,
+    event: &EventView,
     config: &UsacConfig,
-    au: &[u8],
 ) -> Result<FrameHead, FrameEnd>
-    requires { length au.now ≤ 8191 }
-    ensures reads { ReadsUnitHead number config.now au.now result }
+    requires { length event.now.au ≤ 8191 }
+    ensures reads { ReadsUnitHead event.now.frame config.now event.now.au result }
     ensures judges { IfErr result IsJudgement }
 {
-    match read_head(alloc, config, au) {
+    let mut reader = event.reader();
+    match read_head_at(alloc, config, &mut reader) {
         Ok(head) => Ok(head),
-        Err(FrameFault::Short { at }) => Err(too_short(number, at)),
+        // the place of the fault counts from the first bit of the access unit
+        Err(_) => read_copied_head(alloc, event, config),
+    }
+}
+
+/// The same of a copy of the access unit.
+fn read_copied_head(
+    alloc: Global,
+    event: &EventView,
+    config: &UsacConfig,
+) -> Result<FrameHead, FrameEnd>
+    requires { length event.now.au ≤ 8191 }
+    ensures reads { ReadsUnitHead event.now.frame config.now event.now.au result }
+    ensures judges { IfErr result IsJudgement }
+{
+    let au = event.au(alloc)?;
+    match read_head(alloc, config, au.as_slice()) {
+        Ok(head) => Ok(head),
+        Err(FrameFault::Short { at }) => Err(too_short(event.frame(), at)),
         Err(FrameFault::Memory(error)) => Err(FrameEnd::Memory(error)),
     }
 }

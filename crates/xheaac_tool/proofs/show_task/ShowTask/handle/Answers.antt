@@ -13,17 +13,17 @@ returns-in_err-give_mux-clause-handles g c = λ at before f event mux stands.
 pub returns-in_err-head-clause-handles : goal.returns-in_err-head-clause-handles
 returns-in_err-head-clause-handles g c = λ at before f event mux stands.
     let p = err_from_is_err_and c.from_residual-in_err-head.result c.from_residual-in_err-head.ensures.1 in
-    let reads = subst (λ au. ReadsUnit c.args.event.now.frame c.args.mux.now.asc.usac au (Err c.in_err-head.field-0.0)) c.as_slice.ensures c.in_err-head.ensures.reads in
+    let reads = c.in_err-head.ensures.reads in
     rw (p.1, p.2) (show_unread before f _ _ _ c.args.event.now c.args.mux.now c.in_err-head.field-0.0 event mux reads c.in_ok-give_mux.ensures.ok)
 
 -- what is shown of a frame is told by its head
 pub returns-in_err-give_frame-clause-handles : goal.returns-in_err-give_frame-clause-handles
 returns-in_err-give_frame-clause-handles g c = λ at before f event mux stands.
     let p = err_from_is_err_and c.from_residual-in_err-give_frame.result c.from_residual-in_err-give_frame.ensures.1 in
-    let reads = subst (λ au. ReadsUnitHead c.args.event.now.frame c.args.mux.now.asc.usac au (Ok c.in_ok-head.head)) c.as_slice.ensures c.in_ok-head.ensures.reads in
+    let reads = c.in_ok-head.ensures.reads in
     rw (p.1, p.2) (show_stopped before f _ _ _ _ c.args.event.now c.args.mux.now (with_rest c.in_ok-head.head reads.0) c.in_err-give_frame.field-0.0 event mux reads.1 c.in_ok-give_mux.ensures.ok c.in_err-give_frame.ensures.err)
 
 pub returns-clause-handles : goal.returns-clause-handles
 returns-clause-handles g c = λ at before f event mux stands.
-    let reads = subst (λ au. ReadsUnitHead c.args.event.now.frame c.args.mux.now.asc.usac au (Ok c.in_ok-head.head)) c.as_slice.ensures c.in_ok-head.ensures.reads in
+    let reads = c.in_ok-head.ensures.reads in
     show_did before f _ _ _ _ c.args.event.now c.args.mux.now (with_rest c.in_ok-head.head reads.0) event mux reads.1 c.in_ok-give_mux.ensures.ok c.in_ok-give_frame.ensures.ok
