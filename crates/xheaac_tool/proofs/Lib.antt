@@ -4,3 +4,4 @@ pub mod PlayerSteps
 pub mod PlaySteps
 pub mod CheckSteps
 pub mod Runs
+pub mod UnitFrames

@@ -183,3 +183,7 @@ module _ (R : PlayFault → Type 0) (d : Definitions) (c : Command) (before : Li
       by_fault plays.CoreFault h x calm = core_fault (calm (subst (λ (y : UsacConfig). d.serves y) (sym call.config_is) (served (call.takes h.1))))
       by_fault (plays.Memory y) h x calm = core_fault (sym x)
       by_fault plays.Stopped h x calm = core_fault (sym x)
+
+-- the number of an event is that of its frame
+pub end_there : (number n : ℕ) (fault : PlayFault) (end : FrameEnd) → n ≡ number → IsEndOf n fault end → IsEndOf number fault end
+end_there number n fault end is h = subst (λ (m : ℕ). IsEndOf m fault end) is h
