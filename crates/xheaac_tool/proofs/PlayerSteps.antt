@@ -1,5 +1,5 @@
 -- One frame of a command that feeds it to a player.
-use Rattle.std.proofs.Common.{◌≡◌, ℕ, ◌+◌, ◌≤◌, ◌⊎◌, Bool, true, false, List, [], ◌∷◌, ◌++◌, length, Option, Some, None, Err, ℤ, refl, sym, ap, subst, ◌∙◌, arith, inl, inr}
+use Rattle.std.proofs.Common.{◌≡◌, ℕ, ◌+◌, ◌≤◌, ◌⊎◌, Bool, true, false, List, [], ◌++◌, length, Option, Some, None, Err, ℤ, refl, sym, ap, subst, ◌∙◌, arith, inl, inr}
 use Rattle.std.specs.Io.KnownBytes.{append_known}
 use Rattle.causes.specs.Counts.{HasCause}
 use Rattle.usac_cfg.specs.declared.usac_config.UsacConfig.{UsacConfig}
@@ -7,7 +7,7 @@ use Rattle.usac_cfg.specs.UsacConfig.{IsWellFormed}
 use Rattle.preroll.specs.Carrying.{Shown, shown, Shows}
 use Rattle.preroll.proofs.Judging.{shown_once}
 use Rattle.core_iface.specs.Decoding.{Definitions}
-use Rattle.core_iface.specs.Answering.{Running, Meaning}
+use Rattle.core_iface.specs.Answering.{Meaning}
 use Rattle.core_iface.specs.Samples.{sample_bytes}
 use Rattle.outside.specs.declared.fault.DeviceFault.{DeviceFault}
 use Rattle.outside.specs.declared.fault.DeviceFault.TheVariants as devices
