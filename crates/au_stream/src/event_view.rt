@@ -81,11 +81,7 @@ impl<'a> EventView<'a> {
         ensures { left result ≡ bits_of self.now.au }
     {
         let from = self.place.from;
-        BitReader::within(
-            self.element,
-            from,
-            from + 8 * u64::from(self.place.length),
-        )
+        BitReader::within(self.element, from, from + 8 * u64::from(self.place.length))
     }
 
     /// A copy of the access unit. The one error is out of memory.

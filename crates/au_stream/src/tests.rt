@@ -288,3 +288,29 @@ fn the_example_finds_the_longest(rt: HostRuntime) -> Result<(), Fail> {
     assert_eq!(rt; found, 1);
     Ok(())
 }
+
+#[test]
+fn a_frame_is_found_where_it_stands(rt: HostRuntime) -> Result<(), Fail> {
+    let alloc = rt.alloc();
+    let mut shelf = MemShelf::new(alloc, 8192, &[])?;
+    shelf.add("in", &bytes_of(alloc, TWO_SLOTS)?)?;
+    let id = shelf.begin(alloc, "in")?;
+    let mut source = FromShelf::new(&mut shelf, id);
+    let mut reader = AuReader::new(alloc);
+    for (number, au) in [0xA0u8, 0x10].iter().enumerate() {
+        let Some(head) = reader.find(alloc, &mut source)? else {
+            panic!(rt; "no frame {number}");
+        };
+        let view = reader.view(head);
+        assert_eq!(rt; view.frame(), number as u64);
+        assert_eq!(rt; view.changed(), number == 0);
+        assert_eq!(rt; view.opens(), number == 0);
+        assert_eq!(rt; view.len(), 1);
+        assert_eq!(rt; view.reader().take(8)?, u32::from(*au));
+        assert_eq!(rt; view.au(alloc)?.as_slice(), [*au].as_slice());
+        assert!(rt; reader.mux().is_some());
+        reader.pass();
+    }
+    assert!(rt; matches!(reader.find(alloc, &mut source), Ok(None)));
+    Ok(())
+}

@@ -7,7 +7,7 @@
 //! the samples of a frame, and behind the warm-up nothing depends on what was before. `FoldCore` is a
 //! core that decodes no audio: its samples are sums over the bits of its units. `FaultyCore` is a core
 //! over another one, of which listed calls fail. `decode_alone` decodes units from the start of a
-//! stream. `push_sample_bytes` writes samples as bytes.
+//! stream. `push_sample_bytes` and `set_sample_bytes` write samples as bytes.
 #![tactic(auto)]
 
 mod alone;
@@ -22,7 +22,7 @@ pub use cores::Core;
 pub use fault::CoreFault;
 pub use faulty::FaultyCore;
 pub use fold::FoldCore;
-pub use samples::push_sample_bytes;
+pub use samples::{push_sample_bytes, set_sample_bytes};
 pub use usac_frame::Unit;
 
 #[cfg(test)]

@@ -18,6 +18,18 @@ pub fn push_sample_bytes(samples: &[i16], bytes: &mut Vec<u8>) -> Result<(), All
     Ok(())
 }
 
+/// Puts the samples as such bytes in the place of what the vector holds. Where it has their length already nothing is cleared first.
+///
+/// An error leaves the bytes as they were.
+pub fn set_sample_bytes(samples: &[i16], bytes: &mut Vec<u8>) -> Result<(), AllocError>
+    ensures ok { OnOk result (bytes.new.items ≡ sample_bytes samples.now) }
+    ensures err { OnErr result (bytes.new.items ≡ bytes.old.items) }
+{
+    bytes.resize(2 * samples.len(), 0)?;
+    put_each(samples, &mut bytes[..]);
+    Ok(())
+}
+
 fn put_each(samples: &[i16], out: &mut [u8])
     requires { length out.old ≡ 2 * length samples.now }
     ensures { out.new ≡ sample_bytes samples.now }

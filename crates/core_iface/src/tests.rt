@@ -1,4 +1,4 @@
-use crate::{Core, FoldCore, Unit, push_sample_bytes};
+use crate::{Core, FoldCore, Unit, push_sample_bytes, set_sample_bytes};
 use bit_core::{BitReader, Bits};
 use std::alloc::{AllocError, Global};
 use std::process::Abort;
@@ -182,5 +182,7 @@ fn bytes_of_samples(rt: HostRuntime) -> Result<(), Fail> {
     push_sample_bytes(&[-1, 258, -32768], &mut bytes)?;
     let wanted: &[u8] = &[0xff, 0xff, 0x02, 0x01, 0x00, 0x80];
     assert_eq!(rt; bytes.as_slice(), wanted);
+    set_sample_bytes(&[258], &mut bytes)?;
+    assert_eq!(rt; bytes.as_slice(), [0x02u8, 0x01].as_slice());
     Ok(())
 }

@@ -4,7 +4,7 @@ ghost use Rattle.std.specs.Prelude.{◌≡◌, None, false};
 use crate::play_end::end_of;
 use au_stream::EventView;
 use commands::{FrameEnd, Task, give_all};
-use core_iface::{Core, push_sample_bytes};
+use core_iface::{Core, set_sample_bytes};
 use latm::MuxConfig;
 use outside::Sink;
 use std::alloc::Global;
@@ -63,11 +63,13 @@ impl Task for Play {
         let config = &mux.asc.usac;
         let au = event.au(alloc)?;
         self.samples.clear();
-        if let Err(fault) = self.player.feed(alloc, core, config, au.as_slice(), &mut self.samples) {
+        if let Err(fault) = self
+            .player
+            .feed(alloc, core, config, au.as_slice(), &mut self.samples)
+        {
             return Err(end_of(event.frame(), fault));
         }
-        self.bytes.clear();
-        push_sample_bytes(&self.samples, &mut self.bytes)?;
+        set_sample_bytes(&self.samples, &mut self.bytes)?;
         give_all(out, &self.bytes)?;
         Ok(())
     }

@@ -23,9 +23,9 @@ returns-in-Err-clause-calm_decodes g c = λ at before f event mux st calm served
     let call = play_follows g.C.Core.does at before f c.args.mux.now.asc.usac _ c.args.self.now.player _ c.requires.well_formed.asc.usac config (c.as_slice.ensures ∙ (c.in_ok-au.ensures ∙ event.au)) st in
     ended_calm _ g.C.Core.does _ before f _ _ _ _ _ _ _ _ (g.K.Sink.written c.args.out.now) c.args.event.now.frame call event.number c.in-Err.fault c.end_of.result c.in-Err.ensures.feeds.answered (end_there c.args.event.now.frame c.frame.result c.in-Err.fault c.end_of.result c.frame.ensures c.end_of.ensures) served (c.in-Err.ensures.calm_serves calm) end
 
-pub returns-in_err-push_sample_bytes-clause-handles : goal.returns-in_err-push_sample_bytes-clause-handles
-returns-in_err-push_sample_bytes-clause-handles g c = λ at before f event mux st.
-    let p = err_from_is_err_and c.from_residual-in_err-push_sample_bytes.result c.from_residual-in_err-push_sample_bytes.ensures.1 in
+pub returns-in_err-set_sample_bytes-clause-handles : goal.returns-in_err-set_sample_bytes-clause-handles
+returns-in_err-set_sample_bytes-clause-handles g c = λ at before f event mux st.
+    let p = err_from_is_err_and c.from_residual-in_err-set_sample_bytes.result c.from_residual-in_err-set_sample_bytes.ensures.1 in
     let config : c.args.mux.now.asc.usac ≡ config_of f = ap (λ m. m.asc.usac) mux in
     let call = play_follows g.C.Core.does at before f c.args.mux.now.asc.usac _ c.args.self.now.player _ c.requires.well_formed.asc.usac config (c.as_slice.ensures ∙ (c.in_ok-au.ensures ∙ event.au)) st in
     let fed = fed_frame _ g.C.Core.does _ before f _ _ _ _ _ _ _ _ call c.clear.ensures.items c.in_default.ensures.feeds.answered in
@@ -38,7 +38,7 @@ returns-in_err-give_all-clause-handles g c = λ at before f event mux st.
     let call = play_follows g.C.Core.does at before f c.args.mux.now.asc.usac _ c.args.self.now.player _ c.requires.well_formed.asc.usac config (c.as_slice.ensures ∙ (c.in_ok-au.ensures ∙ event.au)) st in
     let fed = fed_frame _ g.C.Core.does _ before f _ _ _ _ _ _ _ _ call c.clear.ensures.items c.in_default.ensures.feeds.answered in
     let bytes : c.deref-2.result.now ≡ sample_bytes c.feed.new.out.items =
-    c.deref-2.ensures.value ∙ (c.in_ok-push_sample_bytes.ensures.ok ∙ (ap (λ (xs : List ℕ). xs ++ sample_bytes c.deref.result.now) c.clear-2.ensures.items ∙ ap sample_bytes c.deref.ensures.value)) in
+    c.deref-2.ensures.value ∙ (c.in_ok-set_sample_bytes.ensures.ok ∙ ap sample_bytes c.deref.ensures.value) in
     rw (p.1, p.2) (fed_stopped _ before f _ _ _ _ _ c.deref-2.result.now c.in_err-give_all.field-0.0 fed bytes c.in_err-give_all.ensures.err)
 
 pub returns-clause-handles : goal.returns-clause-handles
@@ -47,7 +47,7 @@ returns-clause-handles g c = λ at before f event mux st.
     let call = play_follows g.C.Core.does at before f c.args.mux.now.asc.usac _ c.args.self.now.player _ c.requires.well_formed.asc.usac config (c.as_slice.ensures ∙ (c.in_ok-au.ensures ∙ event.au)) st in
     let fed = fed_frame _ g.C.Core.does _ before f _ _ _ _ _ _ _ _ call c.clear.ensures.items c.in_default.ensures.feeds.answered in
     let bytes : c.deref-2.result.now ≡ sample_bytes c.feed.new.out.items =
-    c.deref-2.ensures.value ∙ (c.in_ok-push_sample_bytes.ensures.ok ∙ (ap (λ (xs : List ℕ). xs ++ sample_bytes c.deref.result.now) c.clear-2.ensures.items ∙ ap sample_bytes c.deref.ensures.value)) in
+    c.deref-2.ensures.value ∙ (c.in_ok-set_sample_bytes.ensures.ok ∙ ap sample_bytes c.deref.ensures.value) in
     fed_did _ before f _ _ _ _ _ c.deref-2.result.now fed bytes c.in_ok-give_all.ensures.ok
 
 pub returns-clause-stands : goal.returns-clause-stands
