@@ -1,8 +1,13 @@
 pub mod Blending
 pub mod Playing
+pub mod PlayingFound
+pub mod Streams
+pub mod Cuts
+pub mod CarriedFound
 pub mod PlayerValue
 pub mod Faults
 pub mod Rules
 pub mod Laws
 pub mod Turns
 pub mod Feeding
+pub mod SegmentedFound

@@ -39,6 +39,11 @@ abbrev pub played : Definitions → Option Running → List Shown → List (List
 played d at [] = []
 played d at (f ∷ fs) = played_block d at f ∷ played d (played_state d at f) fs
 
+-- and the core behind them
+abbrev pub state_over : Definitions → Option Running → List Shown → Option Running
+state_over d at [] = at
+state_over d at (f ∷ fs) = state_over d (played_state d at f) fs
+
 -- where a player's core stands, by the configuration of the last frame: nowhere before the first frame
 abbrev pub standing : Option UsacConfig → Option Running → Option Running
 standing None r = None

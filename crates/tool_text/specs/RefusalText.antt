@@ -51,6 +51,8 @@ reason_text reasons.TooManyChannels = codes "too many channels"
 reason_text reasons.TooManyElements = codes "too many elements"
 reason_text reasons.FrameTooShort = codes "frame too short"
 reason_text reasons.NotIndependent = codes "not independent"
+reason_text reasons.RateChanged = codes "rate changed"
+reason_text reasons.ChannelsChanged = codes "channels changed"
 reason_text reasons.NotImmediate = codes "no preroll"
 reason_text reasons.Split = codes "preroll split"
 reason_text (reasons.BadPreroll bit) = codes "bad preroll at bit " & decimal bit
@@ -59,7 +61,7 @@ reason_text reasons.ConfigDiffers = codes "preroll configuration differs"
 reason_text (reasons.BadUnit unit bit) = codes "bad carried unit " & decimal unit & codes " at bit " & decimal bit
 reason_text (reasons.Nested unit) = codes "nested preroll in unit " & decimal unit
 reason_text reasons.FirstDependent = codes "first unit not independent"
-reason_text reasons.FormNotBuilt = codes "form not built"
+reason_text (reasons.TooFew have need) = codes "too few units: " & decimal have & codes " of " & decimal need
 
 -- the whole line, with its line feed
 abbrev pub refusal_text : Option Within → Refusal → List ℕ

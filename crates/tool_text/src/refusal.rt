@@ -67,6 +67,10 @@ pub enum Reason {
     FrameTooShort,
     /// `usacIndependencyFlag` is 0 where it has to be 1.
     NotIndependent,
+    /// The UsacConfig changes, and has another rate.
+    RateChanged,
+    /// The UsacConfig changes, with the same rate, and has another number of output channels.
+    ChannelsChanged,
     /// No preroll is declared, or it has no bytes.
     NotImmediate,
     /// The preroll does not begin or does not end in the frame.
@@ -83,6 +87,6 @@ pub enum Reason {
     Nested { unit: u32 },
     /// The first access unit of the preroll is not independent, or there is none and the frame is not independent.
     FirstDependent,
-    /// The program does not take this form of frame yet.
-    FormNotBuilt,
+    /// The UsacConfig changes, and the preroll has `have` access units, which are fewer than the core's warm-up, `need`.
+    TooFew { have: u32, need: u32 },
 }

@@ -123,6 +123,16 @@ const REFUSALS: &[(Place, Reason, &str)] = &[
     ),
     (
         FRAME,
+        Reason::RateChanged,
+        "refused: frame 7: rate changed\n",
+    ),
+    (
+        FRAME,
+        Reason::ChannelsChanged,
+        "refused: frame 7: channels changed\n",
+    ),
+    (
+        FRAME,
         Reason::NotImmediate,
         "refused: frame 7: no preroll\n",
     ),
@@ -159,8 +169,8 @@ const REFUSALS: &[(Place, Reason, &str)] = &[
     ),
     (
         FRAME,
-        Reason::FormNotBuilt,
-        "refused: frame 7: form not built\n",
+        Reason::TooFew { have: 2, need: 18 },
+        "refused: frame 7: too few units: 2 of 18\n",
     ),
 ];
 

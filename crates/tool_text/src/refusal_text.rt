@@ -69,6 +69,8 @@ fn reason_text(alloc: Global, reason: Reason) -> Result<String, AllocError>
         Reason::TooManyElements => format!(in alloc; "too many elements"),
         Reason::FrameTooShort => format!(in alloc; "frame too short"),
         Reason::NotIndependent => format!(in alloc; "not independent"),
+        Reason::RateChanged => format!(in alloc; "rate changed"),
+        Reason::ChannelsChanged => format!(in alloc; "channels changed"),
         Reason::NotImmediate => format!(in alloc; "no preroll"),
         Reason::Split => format!(in alloc; "preroll split"),
         Reason::BadPreroll { bit } => format!(in alloc; "bad preroll at bit {bit}"),
@@ -79,7 +81,7 @@ fn reason_text(alloc: Global, reason: Reason) -> Result<String, AllocError>
         }
         Reason::Nested { unit } => format!(in alloc; "nested preroll in unit {unit}"),
         Reason::FirstDependent => format!(in alloc; "first unit not independent"),
-        Reason::FormNotBuilt => format!(in alloc; "form not built"),
+        Reason::TooFew { have, need } => format!(in alloc; "too few units: {have} of {need}"),
     }
 }
 

@@ -1,5 +1,6 @@
 pub mod Lines
 pub mod Growing
+pub mod PlayerSteps
 pub mod PlaySteps
 pub mod CheckSteps
 pub mod Runs

@@ -34,8 +34,7 @@ use Rattle.au_stream.specs.declared.event.Event.{Event}
 use Rattle.au_stream.specs.Events.{IsEvent}
 use Rattle.au_stream.specs.Frames.{Frame, config_of}
 use Rattle.commands.specs.OneFrame.{Handles, DidFrame, DidPart, from_device}
-use Rattle.xheaac_tool.specs.Playing.{IsTooShort}
-use Rattle.xheaac_tool.specs.Reading.{ReadsUnit}
+use Rattle.xheaac_tool.specs.Reading.{IsTooShort, ReadsUnit}
 use Rattle.commands.specs.declared.frame_end.FrameEnd.{FrameEnd}
 use Rattle.commands.specs.declared.frame_end.FrameEnd.TheVariants as ends
 use Rattle.xheaac_tool.specs.Showing.{joined, mux_where, lines_where, payload_lines, preroll_where, frame_text, text_where, shown_of, opening_of, showing}

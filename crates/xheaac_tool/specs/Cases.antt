@@ -1,4 +1,5 @@
 -- What the command of a case does.
+use Rattle.std.specs.Prelude.{[]}
 use Rattle.core_iface.specs.Decoding.{Definitions}
 use Rattle.commands.specs.Calling.{Effect}
 use Rattle.commands.specs.OnInput.{on_file}
@@ -10,4 +11,4 @@ use Rattle.xheaac_tool.specs.Words.{Case, Show, Check, Play}
 abbrev pub effect_of : Definitions → Case → Effect
 effect_of d (Show file) = on_file showing
 effect_of d (Check file) = on_file checking
-effect_of d (Play file) = on_file (playing d)
+effect_of d (Play file) = on_file (playing d [])

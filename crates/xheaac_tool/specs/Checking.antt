@@ -13,7 +13,7 @@ use Rattle.tool_text.specs.CheckText.{check_line}
 use Rattle.au_stream.specs.Frames.{Frame, config_of}
 use Rattle.au_stream.specs.Segments.{Segment, AreSegments}
 use Rattle.commands.specs.Commands.{Command, opens_silently, RefusesNoEnd, feeds_none}
-use Rattle.xheaac_tool.specs.Playing.{IsTooShort}
+use Rattle.xheaac_tool.specs.Reading.{IsTooShort}
 
 -- Why `check` refuses a frame: it is too short; or it is immediate, and its preroll breaks a rule, of which this is the first.
 pub data CheckRefuses (before : List Frame) (f : Frame) (r : Refusal) : Type 0 where

@@ -1,5 +1,6 @@
+pub mod PlayFaults
 pub mod Playing
-pub mod Stepping
+pub mod Standing
 pub mod Showing
 pub mod Checking
 pub mod Counting

@@ -1,64 +1,60 @@
 -- What `play` writes for the frames of a stream, and which of them it refuses.
-use Rattle.std.specs.Prelude.{◌≡◌, ◌⊎◌, ◌<◌, ℕ, false, true, List, [], ◌∷◌, length, map, ℤ, None}
-use Rattle.layout.specs.Text.{bits_of}
+use Rattle.std.specs.Prelude.{◌≡◌, ◌+◌, ℕ, true, List, ◌++◌, length, map, drop, Option, Some, None}
+use Rattle.std.specs.Option.{option_map}
 use Rattle.usac_cfg.specs.declared.usac_config.UsacConfig.{UsacConfig}
-use Rattle.usac_frame.specs.declared.frame.Frame.{Frame as UsacFrame}
-use Rattle.usac_frame.specs.declared.fault.FrameFault.TheVariants as faults
-use Rattle.usac_frame.specs.Frame.{FrameFaults}
-use Rattle.usac_frame.specs.AccessUnit.{IsFrame, unit_in}
-use Rattle.usac_frame.specs.Units.{UnitValue, payload_length}
-use Rattle.core_iface.specs.Decoding.{Definitions, out, samples_of}
+use Rattle.preroll.specs.Carrying.{Shown, shown}
+use Rattle.plans.specs.Segments.{own}
+use Rattle.core_iface.specs.Decoding.{Definitions, samples_of}
 use Rattle.core_iface.specs.Samples.{sample_bytes}
-use Rattle.tool_text.specs.Faults.{at_frame}
-use Rattle.tool_text.specs.declared.refusal.Place.TheVariants as places
-use Rattle.tool_text.specs.declared.refusal.Reason.TheVariants as reasons
+use Rattle.switch_player.specs.declared.fault.PlayFault.{PlayFault}
+use Rattle.switch_player.specs.Cuts.{cut}
+use Rattle.switch_player.specs.Playing.{before_it}
+use Rattle.switch_player.specs.Rules as player
 use Rattle.tool_text.specs.declared.refusal.Refusal.{Refusal}
-use Rattle.au_stream.specs.Frames.{Frame, config_of, last_of, IsChange}
+use Rattle.au_stream.specs.Frames.{Frame, config_of, last_of}
 use Rattle.commands.specs.Commands.{Command, opens_silently, RefusesNoEnd, ClosesSilently}
+use Rattle.xheaac_tool.specs.PlayFaults.{refusal_of_play}
 
--- the units of the frames' access units
-abbrev pub units_of : List Frame → List UnitValue
-units_of frames = map (λ f. unit_in (config_of f) f.au) frames
+-- what a frame shows to a player
+abbrev pub play_shown : Frame → Shown
+play_shown f = shown (config_of f) f.au
 
--- the samples of a core's blocks over units, decoded from the start of a stream
-abbrev pub decoded : Definitions → UsacConfig → List UnitValue → List ℤ
-decoded d config units = samples_of (out d config (d.init config) units)
+-- the configuration of the last frame
+abbrev pub last_config : List Frame → Option UsacConfig
+last_config frames = option_map config_of (last_of frames)
 
--- the sample bytes of the frames, all of the configuration of the first one
+-- The sample bytes of frames. A longest run of frames with one configuration is a segment, which is decoded alone; where its first
+-- frame asks for a fade, what the core has left of the segment before fades into its first block.
 abbrev pub output : Definitions → List Frame → List ℕ
-output d [] = []
-output d (f ∷ fs) = sample_bytes (decoded d (config_of f) (units_of (f ∷ fs)))
+output d frames = sample_bytes (samples_of (cut d (own (map play_shown frames))))
 
--- The access unit of a frame is no frame of its configuration, and has its first fault at that bit.
-pub record IsTooShort (before : List Frame) (f : Frame) (r : Refusal) : Type 0 where
-  pub at : ℕ
-  pub fault : FrameFaults (config_of f) (faults.Short at) (bits_of f.au)
-  pub refusal : r ≡ record { place = places.FrameBit (length before) at; reason = reasons.FrameTooShort }
+-- what stands behind the output of earlier frames
+abbrev pub output_on : Definitions → List Frame → List Frame → List ℕ
+output_on d earlier frames = drop (length (output d earlier)) (output d (earlier ++ frames))
 
--- the configuration is another one than that of the frame before
-abbrev pub IsLater : List Frame → Frame → Type 0
-IsLater [] f = ⊥
-IsLater (g ∷ before) f = IsChange (last_of (g ∷ before)) f
+-- The frame is refused behind those of earlier files and those before it in its own: by a rule of the player.
+abbrev pub PlayRefuses : Definitions → List Frame → List Frame → Frame → Refusal → Type 0
+PlayRefuses d earlier before f r =
+    (fault : PlayFault) × player.Refuses d (last_config (earlier ++ before)) (config_of f) f.au fault × (refusal_of_play (length before) fault ≡ Some r)
 
--- A start is refused: a frame with a preroll is not taken yet, and one without has to be independent.
-abbrev pub IsNoStart : UsacConfig → UsacFrame → Refusal → Type 0
-IsNoStart c g r = ((0 < payload_length c g) × (r ≡ at_frame 0 reasons.FormNotBuilt)) ⊎ ((payload_length c g ≡ 0) × (g.independent ≡ false) × (r ≡ at_frame 0 reasons.NotIndependent))
-
--- Why `play` refuses a frame behind those before it: it does not take another configuration yet; the frame is too short; it
--- is no start.
-pub data PlayRefuses (before : List Frame) (f : Frame) (r : Refusal) : Type 0 where
-  Changes : IsLater before f → r ≡ at_frame (length before) reasons.FormNotBuilt → PlayRefuses before f r
-  TooShort : (IsLater before f → ⊥) → IsTooShort before f r → PlayRefuses before f r
-  NoStart : before ≡ [] → (g : UsacFrame) → IsFrame (config_of f) f.au g → IsNoStart (config_of f) g r → PlayRefuses before f r
+-- how many units the player steps for a frame: at a start and at a join those that it carries, and its own
+abbrev pub play_units : List Frame → Frame → ℕ
+play_units before f = before_it (last_config before) (play_shown f) + 1
 
 -- the core serves the configuration of a frame
 abbrev pub IsServed : Definitions → Frame → Type 0
 IsServed d f = d.serves (config_of f)
 
--- the unit of each frame is fed
-abbrev pub feeds_each : List Frame → Frame → ℕ
-feeds_each before f = 1
-
--- `play` writes the sample bytes of frames, each of which it feeds to the core.
-abbrev pub playing : Definitions → Command
-playing d = record { within = None; opening = opens_silently; Refuses = PlayRefuses; output = output d; RefusesEnd = RefusesNoEnd; Closes = ClosesSilently; plays = true; units = feeds_each; Serves = IsServed d }
+-- `play` writes the sample bytes of frames, each of which it feeds to one player, behind those of earlier files.
+abbrev pub playing : Definitions → List Frame → Command
+playing d earlier = record {
+  within = None;
+  opening = opens_silently;
+  Refuses = PlayRefuses d earlier;
+  output = output_on d earlier;
+  RefusesEnd = RefusesNoEnd;
+  Closes = ClosesSilently;
+  plays = true;
+  units = λ before f. play_units (earlier ++ before) f;
+  Serves = IsServed d;
+}

@@ -1,5 +1,5 @@
--- What reading the frame of an access unit answers.
-use Rattle.std.specs.Prelude.{◌≡◌, ℕ, Bool, List, Result, Ok, Err}
+-- What reading the frame of an access unit answers, and the refusal of a frame that is too short.
+use Rattle.std.specs.Prelude.{◌≡◌, ℕ, Bool, List, length, Result, Ok, Err}
 use Rattle.layout.specs.Text.{bits_of}
 use Rattle.usac_cfg.specs.declared.usac_config.UsacConfig.{UsacConfig}
 use Rattle.usac_frame.specs.declared.frame.Frame.{Frame as UsacFrame}
@@ -11,10 +11,15 @@ use Rattle.usac_frame.specs.AccessUnit.{IsFrame}
 use Rattle.tool_text.specs.declared.refusal.Place.TheVariants as places
 use Rattle.tool_text.specs.declared.refusal.Reason.TheVariants as reasons
 use Rattle.tool_text.specs.declared.refusal.Refusal.{Refusal}
-use Rattle.au_stream.specs.Frames.{Frame}
-use Rattle.xheaac_tool.specs.Playing.{PlayRefuses}
+use Rattle.au_stream.specs.Frames.{Frame, config_of}
 use Rattle.commands.specs.declared.frame_end.FrameEnd.{FrameEnd}
 use Rattle.commands.specs.declared.frame_end.FrameEnd.TheVariants as ends
+
+-- The access unit of a frame is no frame of its configuration, and has its first fault at that bit.
+pub record IsTooShort (before : List Frame) (f : Frame) (r : Refusal) : Type 0 where
+  pub at : ℕ
+  pub fault : FrameFaults (config_of f) (faults.Short at) (bits_of f.au)
+  pub refusal : r ≡ record { place = places.FrameBit (length before) at; reason = reasons.FrameTooShort }
 
 -- The frame that the access unit with that number is, or its first fault as a refusal, or out of memory.
 abbrev pub ReadsUnit : ℕ → UsacConfig → List ℕ → Result UsacFrame FrameEnd → Type 0
@@ -36,11 +41,3 @@ IsJudgement (ends.Refused r) = Unit {0}
 IsJudgement ends.WriteFault = ⊥
 IsJudgement ends.CoreFault = ⊥
 IsJudgement (ends.Memory e) = Unit {0}
-
--- What `play` says of a frame behind those before it: it takes it, or refuses it for that reason, or memory fails.
-abbrev pub Judges : List Frame → Frame → Result UsacFrame FrameEnd → Type 0
-Judges before f (Ok g) = (r : Refusal) → PlayRefuses before f r → ⊥
-Judges before f (Err (ends.Refused r)) = PlayRefuses before f r
-Judges before f (Err ends.WriteFault) = ⊥
-Judges before f (Err ends.CoreFault) = ⊥
-Judges before f (Err (ends.Memory e)) = Unit {0}

@@ -15,7 +15,7 @@ use Rattle.tool_text.specs.FrameText.{frame_line}
 use Rattle.tool_text.specs.PreRollText.{bad_line, lines_of_preroll}
 use Rattle.au_stream.specs.Frames.{Frame, config_of}
 use Rattle.commands.specs.Commands.{Command, RefusesNoEnd, ClosesSilently, feeds_none}
-use Rattle.xheaac_tool.specs.Playing.{IsTooShort}
+use Rattle.xheaac_tool.specs.Reading.{IsTooShort}
 
 -- lines one after another
 abbrev pub joined : List (List ℕ) → List ℕ

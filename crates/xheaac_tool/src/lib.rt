@@ -11,6 +11,7 @@
 mod check;
 mod check_task;
 mod play;
+mod play_end;
 mod play_task;
 mod show;
 mod show_task;

@@ -13,12 +13,12 @@ use core_iface::Core;
 use outside::{Shelf, Sink};
 use std::alloc::Global;
 
-/// The command `play FILE`: decodes each frame of a file and writes its samples, two bytes each, the least significant
-/// first, channels interleaved by time.
+/// The command `play FILE`: plays each frame of a file and writes its samples, two bytes each, the least significant first,
+/// channels interleaved by time.
 ///
-/// The file is a LOAS stream (ISO/IEC 14496-3, AudioSyncStream). It is refused where the stream is, at a frame that is too
-/// short, at a first frame that is not independent, and, so far, at a first frame with a preroll and where another UsacConfig
-/// (ISO/IEC 23003-3) begins. The frames before that were played.
+/// The file is a LOAS stream (ISO/IEC 14496-3, AudioSyncStream). Where another UsacConfig (ISO/IEC 23003-3) begins in it, decoding
+/// begins anew with what the frame's preroll carries, and the samples before fade into it where the preroll asks for that. The
+/// file is refused where the stream is, and at a frame that the player refuses. The frames before that were played.
 pub fn do_play<H: Shelf, K: Sink, C: Core>(
     alloc: Global,
     words: &[String],
@@ -29,7 +29,7 @@ pub fn do_play<H: Shelf, K: Sink, C: Core>(
     requires words { (file : List ℕ) × IsPlay (texts words.now) file }
     requires begun { H.begun shelf.old ≤ 2 ^ 31 }
     requires fed { (C.meaning core.old).fed ≤ 2 ^ 63 }
-    ensures { (file : List ℕ) → IsPlay (texts words.now) file → Called (on_file (playing C.does)) (file ∷ [])
+    ensures { (file : List ℕ) → IsPlay (texts words.now) file → Called (on_file (playing C.does [])) (file ∷ [])
         (world H.Shelf K.Sink C.Core shelf.old out.old core.old) (world H.Shelf K.Sink C.Core shelf.new out.new core.new) result }
 {
     let Some(Asked::Play { file }) = read_words(words) else {

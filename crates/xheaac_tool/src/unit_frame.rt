@@ -9,7 +9,7 @@ use usac_cfg::UsacConfig;
 use usac_frame::{Frame, FrameFault, FrameHead, read_frame, read_head};
 
 /// How a command ends at the frame with that number, which lacks bits from that bit on.
-fn too_short(number: u64, at: u64) -> FrameEnd
+pub fn too_short(number: u64, at: u64) -> FrameEnd
     ensures { result ≡ FrameEnd.Refused (record { place = Place.FrameBit number at; reason = Reason.FrameTooShort }) }
 {
     FrameEnd::Refused(Refusal {

@@ -1,0 +1,4 @@
+pub mod Plans
+pub mod Segments
+pub mod Laws
+pub mod SegmentsFound
