@@ -240,8 +240,9 @@ fn faded(alloc: Global) -> Result<Vec<u8>, AllocError> {
 fn plays_a_fade(rt: HostRuntime) -> Result<(), Fail> {
     let alloc = rt.alloc();
     let block = faded(alloc)?;
-    for (time, sample) in [(0usize, 8u8), (64, 75), (127, 141), (128, 143)] {
-        assert_eq!(rt; block.get(2 * time).copied(), Some(sample));
+    // the samples at the times 0, 64, 127 and 128
+    for (place, sample) in [(0usize, 8u8), (128, 75), (254, 141), (256, 143)] {
+        assert_eq!(rt; block.get(place).copied(), Some(sample));
     }
     let mut wanted = samples_of(alloc, BEFORE)?;
     wanted.extend_from_slice(&block)?;
