@@ -1,8 +1,5 @@
 pub mod Mixing
 pub mod Lengths
-pub mod Outs
-pub mod Pieces
-pub mod Plays
 pub mod Taken
 pub mod RefusedOnce
 pub mod TurnLemmas

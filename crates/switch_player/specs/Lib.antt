@@ -10,4 +10,7 @@ pub mod Rules
 pub mod Laws
 pub mod Turns
 pub mod Feeding
+pub mod OutsFound
+pub mod PiecesFound
+pub mod PlaysFound
 pub mod SegmentedFound

@@ -1,5 +1,5 @@
 -- One core that runs on through frames gives what their segments give, each decoded alone.
-use Rattle.std.proofs.Common.{◌≡◌, ℕ, List, [], ◌∷◌, length, map, Option, Some, None, refl, ap, sym, ◌∙◌, arith}
+use Rattle.std.proofs.Common.{List, [], ◌∷◌, length, map, Option, Some, None, refl, ap, sym, ◌∙◌, arith}
 use Rattle.usac_cfg.specs.declared.usac_config.UsacConfig.{UsacConfig}
 use Rattle.core_iface.specs.Decoding.{Definitions}
 use Rattle.preroll.specs.Carrying.{Shown}
@@ -9,8 +9,8 @@ use Rattle.plans.specs.Laws.{AreRuns}
 use Rattle.plans.specs.SegmentsFound.{runs_of, splice_own}
 use Rattle.switch_player.specs.Playing.{played}
 use Rattle.switch_player.specs.Laws.{PlaysSegments}
-use Rattle.switch_player.proofs.Pieces.{placed_start}
-use Rattle.switch_player.proofs.Plays.{AllPlaced, played_pieces}
+use Rattle.switch_player.specs.PiecesFound.{placed_start}
+use Rattle.switch_player.specs.PlaysFound.{AllPlaced, played_pieces}
 
 placed_runs : (d : Definitions) (c : Option UsacConfig) (rs : List (List Shown)) → AreRuns c rs → AllPlaced d c (map whole rs)
 placed_runs d c [] h = tt

@@ -1,5 +1,5 @@
 // A frame on a core.
-ghost use Rattle.std.specs.Prelude.{◌≡◌, ◌+◌, ◌-◌, ◌*◌, ◌^◌, ◌≤◌, length, false, None, OnOk, OnErr, IsSome};
+ghost use Rattle.std.specs.Prelude.{◌≡◌, ◌+◌, ◌-◌, ◌*◌, ◌^◌, ◌≤◌, ◌++◌, length, false, None, OnOk, OnErr, IsSome};
 ghost use Rattle.causes.specs.Counts.{HasCause};
 ghost use Rattle.usac_cfg.specs.UsacConfig.{IsWellFormed, channels};
 ghost use Rattle.core_iface.specs.Answering.{stepped_over, drained};
@@ -12,7 +12,7 @@ use crate::blending::blend;
 use crate::turn::Turn;
 use core_iface::{Core, CoreFault, Unit};
 use preroll::CarriedUnits;
-use std::alloc::Global;
+use std::alloc::{AllocError, Global};
 use usac_cfg::UsacConfig;
 
 /// Steps units and drops their blocks.
@@ -70,6 +70,23 @@ fn fade_in(old: &[i16], block: &mut Vec<i16>, channels: u32)
     blend(old, block, channels);
 }
 
+/// Appends a block, into whose first samples the old ones fade; or nothing.
+fn push_faded(
+    old: &[i16],
+    mut block: Vec<i16>,
+    channels: u32,
+    out: &mut Vec<i16>,
+) -> Result<(), AllocError>
+    requires some { 1 ≤ channels }
+    requires fade { length old.now ≡ 128 * channels }
+    requires within { length old.now ≤ length block.items }
+    ensures ok { OnOk result (out.new.items ≡ out.old.items ++ blended channels old.now block.items) }
+    ensures err { OnErr result (out.new.items ≡ out.old.items) }
+{
+    fade_in(old, &mut block, channels);
+    out.extend_from_slice(&block)
+}
+
 /// Begins to decode at a frame of another configuration. Where its preroll asks for a fade, what the core drains fades into the
 /// block.
 fn join<C: Core>(
@@ -103,8 +120,7 @@ fn join<C: Core>(
         unit,
         &mut block,
     )?;
-    fade_in(&old, &mut block, config.channels());
-    out.extend_from_slice(&block)?;
+    push_faded(&old, block, config.channels(), out)?;
     Ok(())
 }
 

@@ -12,7 +12,7 @@ use Rattle.switch_player.specs.CarriedFound.{few_before}
 use Rattle.switch_player.specs.SegmentedFound.{plays_segments}
 use Rattle.au_stream.specs.Frames.{Frame, config_of}
 use Rattle.commands.specs.Commands.{IsCommand, Grows}
-use Rattle.xheaac_tool.specs.Playing.{playing, play_shown, last_config, output, output_on, play_units}
+use Rattle.xheaac_tool.specs.Playing.{playing, play_shown, last_config, output, output_on}
 use Rattle.xheaac_tool.specs.Standing.{state_behind}
 use Rattle.xheaac_tool.specs.Showing.{shown_of, shown_from, showing}
 use Rattle.xheaac_tool.specs.Checking.{checking}

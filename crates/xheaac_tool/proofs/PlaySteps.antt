@@ -1,5 +1,5 @@
 -- One frame of `play`.
-use Rattle.std.proofs.Common.{◌≡◌, ℕ, ◌+◌, List, [], ◌∷◌, ◌++◌, length, Option, Some, None, ℤ, refl, sym, ap, subst, ◌∙◌, append_assoc}
+use Rattle.std.proofs.Common.{◌≡◌, ℕ, ◌+◌, List, [], ◌∷◌, ◌++◌, Option, Some, ℤ, refl, sym, ap, subst, ◌∙◌, append_assoc}
 use Rattle.usac_cfg.specs.declared.usac_config.UsacConfig.{UsacConfig}
 use Rattle.usac_cfg.specs.UsacConfig.{IsWellFormed}
 use Rattle.core_iface.specs.Decoding.{Definitions}
@@ -10,10 +10,8 @@ use Rattle.switch_player.specs.PlayerValue.{PlayerValue}
 use Rattle.switch_player.specs.Playing.{played_block, played_state, standing, before_it}
 use Rattle.switch_player.specs.Rules.{Refuses, TakesBy}
 use Rattle.switch_player.specs.Feeding.{IsInStep, IsPlayed}
-use Rattle.tool_text.specs.declared.refusal.Refusal.{Refusal}
 use Rattle.au_stream.specs.Frames.{Frame, config_of}
 use Rattle.commands.specs.Commands.{Takes}
-use Rattle.xheaac_tool.specs.PlayFaults.{refusal_of_play}
 use Rattle.xheaac_tool.specs.Playing.{playing, play_shown, last_config}
 use Rattle.xheaac_tool.specs.Standing.{PlayerStands, state_behind}
 use Rattle.xheaac_tool.proofs.Growing.{last_config-push, state_push, play_grows}

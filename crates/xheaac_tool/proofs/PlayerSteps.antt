@@ -1,5 +1,5 @@
 -- One frame of a command that feeds it to a player.
-use Rattle.std.proofs.Common.{◌≡◌, ℕ, ◌+◌, ◌≤◌, ◌⊎◌, Bool, true, false, List, [], ◌∷◌, ◌++◌, length, Option, Some, None, Err, ℤ, refl, sym, ap, subst, ◌∙◌, arith, inl, inr}
+use Rattle.std.proofs.Common.{◌≡◌, ℕ, ◌+◌, ◌≤◌, ◌⊎◌, Bool, true, false, List, [], ◌++◌, length, Option, Some, None, Err, ℤ, refl, sym, ap, subst, ◌∙◌, arith, inl, inr}
 use Rattle.std.specs.Io.KnownBytes.{append_known}
 use Rattle.causes.specs.Counts.{HasCause}
 use Rattle.usac_cfg.specs.declared.usac_config.UsacConfig.{UsacConfig}
@@ -7,7 +7,7 @@ use Rattle.usac_cfg.specs.UsacConfig.{IsWellFormed}
 use Rattle.preroll.specs.Carrying.{Shown, shown, Shows}
 use Rattle.preroll.proofs.Judging.{shown_once}
 use Rattle.core_iface.specs.Decoding.{Definitions}
-use Rattle.core_iface.specs.Answering.{Running, Meaning}
+use Rattle.core_iface.specs.Answering.{Meaning}
 use Rattle.core_iface.specs.Samples.{sample_bytes}
 use Rattle.outside.specs.declared.fault.DeviceFault.{DeviceFault}
 use Rattle.outside.specs.declared.fault.DeviceFault.TheVariants as devices
@@ -24,7 +24,7 @@ use Rattle.commands.specs.declared.frame_end.FrameEnd.{FrameEnd}
 use Rattle.commands.specs.declared.frame_end.FrameEnd.TheVariants as ends
 use Rattle.commands.specs.Commands.{Command, Takes, Grows}
 use Rattle.commands.specs.Handing.{WrotePart}
-use Rattle.commands.specs.OneFrame.{CausedBy, Handles, DidFrame, DidPart, from_device}
+use Rattle.commands.specs.OneFrame.{CausedBy, Handles, DidFrame, DidPart, DidSome, from_device}
 use Rattle.commands.proofs.Going.{append-none}
 use Rattle.xheaac_tool.specs.Playing.{play_shown}
 use Rattle.xheaac_tool.specs.PlayFaults.{refusal_of_play, IsEndOf}
@@ -65,9 +65,9 @@ pub fed_stopped : (c : Command) (before : List Frame) (f : Frame) (k m : Meaning
 fed_stopped c before f k m w0 w1 bytes written devices.Failed h is part = inl (fed_part c before f k m w0 w1 bytes written h is part)
 fed_stopped c before f k m w0 w1 bytes written (devices.Memory e) h is part = inl (fed_part c before f k m w0 w1 bytes written h is part)
 
--- nothing was written
-pub fed_unwritten : (c : Command) (before : List Frame) (f : Frame) (k m : Meaning) (w : Option (List ℕ)) (bytes : List ℕ) → Fed c before f k m bytes → DidPart c before f k m w w
-fed_unwritten c before f k m w bytes h = fed_part c before f k m w w bytes bytes h refl (0, append-none w)
+-- memory ran out before anything was written
+pub fed_unwritten : (c : Command) (before : List Frame) (f : Frame) (k m : Meaning) (w : Option (List ℕ)) (bytes : List ℕ) → Fed c before f k m bytes → DidPart c before f k m w w ⊎ DidSome c before f k m w w
+fed_unwritten c before f k m w bytes h = inl (fed_part c before f k m w w bytes bytes h refl (0, append-none w))
 
 -- all was written
 pub fed_did : (c : Command) (before : List Frame) (f : Frame) (k m : Meaning) (w0 w1 : Option (List ℕ)) (bytes written : List ℕ) → Fed c before f k m bytes → written ≡ bytes → w1 ≡ append_known w0 written → DidFrame c before f k m w0 w1

@@ -1,5 +1,5 @@
 -- How a command ends at a frame that its player does not play.
-use Rattle.std.specs.Prelude.{◌≡◌, ℕ, Bool, true, false, Option, Some, None, Err}
+use Rattle.std.specs.Prelude.{◌≡◌, ℕ, true, false, Option, Some, None, Err}
 use Rattle.switch_player.specs.declared.fault.PlayFault.{PlayFault}
 use Rattle.switch_player.specs.declared.fault.PlayFault.TheVariants.{FrameFault, NotIndependent, RateChanged, ChannelsChanged, Carry, TooFew, CoreFault, Memory, Stopped}
 use Rattle.switch_player.specs.Faults.{is_core_fault}

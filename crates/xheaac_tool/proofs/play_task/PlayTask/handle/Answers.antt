@@ -1,4 +1,4 @@
-use Rattle.std.proofs.Common.{◌≡◌, ◌++◌, List, ℕ, sym, ap, ◌∙◌, Err}
+use Rattle.std.proofs.Common.{◌≡◌, ◌++◌, List, ℕ, ap, ◌∙◌}
 use Rattle.std.proofs.lemmas.Result.{err_from_is_err_and}
 use Rattle.core_iface.specs.Samples.{sample_bytes}
 use Rattle.au_stream.specs.Frames.{config_of}
@@ -25,7 +25,11 @@ returns-in-Err-clause-calm_decodes g c = λ at before f event mux st calm served
 
 pub returns-in_err-push_sample_bytes-clause-handles : goal.returns-in_err-push_sample_bytes-clause-handles
 returns-in_err-push_sample_bytes-clause-handles g c = λ at before f event mux st.
-    ?
+    let p = err_from_is_err_and c.from_residual.result c.from_residual.ensures.1 in
+    let config : c.args.mux.now.asc.usac ≡ config_of f = ap (λ m. m.asc.usac) mux in
+    let call = play_follows g.C.Core.does at before f c.args.mux.now.asc.usac _ c.args.self.now.player _ c.requires.well_formed.asc.usac config (c.as_slice-au.ensures ∙ event.au) st in
+    let fed = fed_frame _ g.C.Core.does _ before f _ _ _ _ _ _ _ _ call c.clear.ensures.items c.in_default.ensures.feeds.answered in
+    rw (p.1, p.2) (fed_unwritten _ before f _ _ (g.K.Sink.written c.args.out.now) _ fed)
 
 pub returns-in_err-give_all-clause-handles : goal.returns-in_err-give_all-clause-handles
 returns-in_err-give_all-clause-handles g c = λ at before f event mux st.

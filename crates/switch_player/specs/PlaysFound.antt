@@ -1,6 +1,6 @@
 -- One core that runs on through pieces.
 use Rattle.std.proofs.Common.{◌≡◌, ℕ, List, [], ◌∷◌, ◌++◌, Option, Some, None, Bool, true, false, ℤ, refl, ap, sym, subst, ◌∙◌}
-use Rattle.std.specs.Prelude.{slice_get, if◌then◌else◌}
+use Rattle.std.specs.Prelude.{if◌then◌else◌}
 use Rattle.std.proofs.lemmas.List.Elements.{All-head, All-tail}
 use Rattle.usac_cfg.specs.declared.usac_config.UsacConfig.{UsacConfig}
 use Rattle.usac_cfg.specs.UsacConfig.{channels}
@@ -14,7 +14,7 @@ use Rattle.switch_player.specs.Blending.{blended}
 use Rattle.switch_player.specs.Playing.{fresh, begun, played, played_block, played_state}
 use Rattle.switch_player.specs.Streams.{left}
 use Rattle.switch_player.specs.Cuts.{blocks_of, joined, cut_behind}
-use Rattle.switch_player.proofs.Pieces.{Placed, own_units, state_before, config_at}
+use Rattle.switch_player.specs.PiecesFound.{Placed, own_units, state_before, config_at}
 
 -- a core in a state goes on through frames of one configuration
 played_on : (d : Definitions) (c : UsacConfig) (s : List ℕ) (fs rest : List Shown) → AreOf c fs → played d (running c s) (fs ++ rest) ≡ out d c s (own_units fs) ++ played d (running c (after d c s (own_units fs))) rest

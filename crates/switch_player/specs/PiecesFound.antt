@@ -12,7 +12,7 @@ use Rattle.plans.specs.Plans.{Piece, frames_of}
 use Rattle.plans.specs.Laws.{AreOf}
 use Rattle.switch_player.specs.Streams.{units_of, head_of, left}
 use Rattle.switch_player.specs.Cuts.{blocks_of}
-use Rattle.switch_player.proofs.Outs.{out-append, after-append, length-out}
+use Rattle.switch_player.specs.OutsFound.{out-append, after-append, length-out}
 
 -- the state in which a fresh core stands before the unit of a frame
 abbrev pub state_before : Definitions → Shown → List ℕ
