@@ -2,7 +2,8 @@
 """Says what `xheaac show FILE`, `xheaac check FILE` and `xheaac play FILE` are to do, by a reader of its own: expect.py
 show|check|play FILE writes the same bytes and the same note, and ends with the same status. It shares no code with the program.
 It reads a stream in any mux of one program and one layer, says at which bit or byte it is at fault, judges its prerolls, and
-decodes by the rules of the example core."""
+plays it by the rules of a player and of the example core."""
+import struct
 import sys
 
 from layouts import Configuration, Fault, PreRoll, Text, Unit, read_element
@@ -10,6 +11,8 @@ from layouts import Configuration, Fault, PreRoll, Text, Unit, read_element
 MOST_BYTES = 268_435_456
 # by sbrRatioIndex: how many units the example core takes to warm up
 WARM_UP = (1, 3, 2, 2)
+# how many times a fade has
+FADED = 128
 
 
 class Stop(Exception):
@@ -18,6 +21,10 @@ class Stop(Exception):
     def __init__(self, note, status):
         super().__init__(note)
         self.note, self.status = note, status
+
+
+class Broken(Exception):
+    """A frame breaks a rule: its text."""
 
 
 def refused(place, reason):
@@ -77,60 +84,83 @@ def preroll_lines(payload):
         return [f"preroll bad bit={fault.bit}"]
 
 
-def configuration_fault(bits, usac):
-    """Says what is wrong with the configuration that a preroll has, if anything: its bytes spell the one in force, and at most 7
-    bits follow."""
+def judge_configuration(bits, usac):
+    """The bytes of the configuration that a preroll has spell the one in force, and at most 7 bits follow."""
     text = Text(bits, "configuration too short")
     try:
         spelling = Configuration(text).spelling
-    except Fault:
-        return "bad preroll configuration"
+    except Fault as fault:
+        raise Broken("bad preroll configuration") from fault
     if text.left() > 7:
-        return "bad preroll configuration"
-    return None if spelling == usac.spelling else "preroll configuration differs"
+        raise Broken("bad preroll configuration")
+    if spelling != usac.spelling:
+        raise Broken("preroll configuration differs")
 
 
-def preroll_fault(usac, unit):
-    """Says what is wrong with the preroll of an immediate frame, if anything. Each rule is tried over all units before the
+def carried(usac, unit):
+    """The units that the preroll of a frame carries, and whether it asks for a fade. Each rule is tried over all units before the
     next."""
+    if not unit.preroll:
+        raise Broken("no preroll")
+    if not unit.is_immediate:
+        raise Broken("preroll split")
     try:
         preroll = PreRoll(unit.preroll)
     except Fault as fault:
-        return f"bad preroll at bit {fault.bit}"
-    if preroll.configuration and (reason := configuration_fault(preroll.configuration, usac)):
-        return reason
-    carried = []
+        raise Broken(f"bad preroll at bit {fault.bit}") from fault
+    if preroll.configuration:
+        judge_configuration(preroll.configuration, usac)
+    units = []
     for number, bits in enumerate(preroll.units):
         try:
-            carried.append(Unit(usac, bits))
+            units.append(Unit(usac, bits))
         except Fault as fault:
-            return f"bad carried unit {number} at bit {fault.bit}"
-    for number, other in enumerate(carried):
+            raise Broken(f"bad carried unit {number} at bit {fault.bit}") from fault
+    for number, other in enumerate(units):
         if other.preroll:
-            return f"nested preroll in unit {number}"
-    first = carried[0] if carried else unit
-    return "first unit not independent" if first.flag == "0" else None
+            raise Broken(f"nested preroll in unit {number}")
+    if [*units, unit][0].flag == "0":
+        raise Broken("first unit not independent")
+    return units, preroll.fade
 
 
 class Fold:
-    """The example core: a context, and the values of the units before, the newest first."""
+    """The example core: a context, and the values of the last units, the newest first."""
 
     def __init__(self, usac):
         self.usac = usac
         self.context = 0
         self.values = [0] * WARM_UP[usac.ratio]
 
-    def block(self, unit):
-        places = sum(place for place, bit in enumerate(unit[1:], 1) if bit == "1")
-        value = (places if unit[0] == "1" else 3 * self.context + places) % 32768
-        level = value + sum(times * before for times, before in enumerate(self.values, 2))
+    def weighted(self):
+        return sum(times * value for times, value in enumerate(self.values, 2))
+
+    def ramp(self, level, times):
+        """Samples of 16 bits with a sign, the channels of one time side by side."""
+        channels = range(1, self.usac.channels + 1)
+        return [(level + time * channel + 32768) % 65536 - 32768 for time in range(times) for channel in channels]
+
+    def step(self, unit):
+        """The block of a unit."""
+        places = sum(place for place, bit in enumerate(unit.bits[1:], 1) if bit == "1")
+        value = (places if unit.flag == "1" else 3 * self.context + places) % 32768
+        block = self.ramp(value + self.weighted(), self.usac.samples)
         self.context = value
         self.values = [value, *self.values[:-1]]
-        return b"".join(
-            ((level + time * (channel + 1)) % 65536).to_bytes(2, "little")
-            for time in range(self.usac.samples)
-            for channel in range(self.usac.channels)
-        )
+        return block
+
+    def drain(self):
+        """What is still to come behind the last unit."""
+        return self.ramp(self.weighted(), FADED)
+
+
+def blended(old, block, channels):
+    """The block, into which these samples of the stream before fade."""
+    front = [
+        (before * (FADED - place // channels) + after * (place // channels)) // FADED
+        for place, (before, after) in enumerate(zip(old, block))
+    ]
+    return front + block[len(front) :]
 
 
 class Command:
@@ -148,21 +178,46 @@ class Command:
 
 
 class Play(Command):
-    """The samples of each frame. So far it takes one configuration, and no preroll at its start."""
+    """The samples of each frame. Decoding begins at the first frame, and where the configuration is another than before (a join):
+    there a new core steps the units that the frame carries, and their blocks are dropped. Else the core goes on, and the preroll
+    of the frame is not read."""
 
     core = None
 
+    def judge_start(self, unit):
+        if not unit.preroll and unit.flag == "0":
+            raise Broken("not independent")
+
+    def judge_join(self, usac):
+        if usac.rate != self.core.usac.rate:
+            raise Broken("rate changed")
+        if usac.channels != self.core.usac.channels:
+            raise Broken("channels changed")
+
+    def begin(self, usac, unit):
+        """The block of a frame at which decoding begins."""
+        old = self.core
+        if old:
+            self.judge_join(usac)
+        else:
+            self.judge_start(unit)
+        units, fade = carried(usac, unit) if old or unit.preroll else ([], 0)
+        need = WARM_UP[usac.ratio]
+        if old and len(units) < need:
+            raise Broken(f"too few units: {len(units)} of {need}")
+        self.core = Fold(usac)
+        for before in units:
+            self.core.step(before)
+        block = self.core.step(unit)
+        return blended(old.drain(), block, usac.channels) if old and fade else block
+
     def handle(self, frame):
-        if frame.number and frame.is_changed:
-            raise refused(f"frame {frame.number}", "form not built")
         unit = read_unit(frame)
-        if self.core is None:
-            if unit.preroll:
-                raise refused(f"frame {frame.number}", "form not built")
-            if unit.flag == "0":
-                raise refused(f"frame {frame.number}", "not independent")
-            self.core = Fold(frame.mux.asc.usac)
-        return self.core.block(unit.bits)
+        try:
+            block = self.begin(frame.mux.asc.usac, unit) if frame.is_changed else self.core.step(unit)
+        except Broken as broken:
+            raise refused(f"frame {frame.number}", broken) from broken
+        return struct.pack(f"<{len(block)}h", *block)
 
 
 def text_of(lines):
@@ -195,8 +250,11 @@ class Check(Command):
 
     def handle(self, frame):
         unit = read_unit(frame)
-        if unit.is_immediate and (reason := preroll_fault(frame.mux.asc.usac, unit)):
-            raise refused(f"frame {frame.number}", reason)
+        try:
+            if unit.is_immediate:
+                carried(frame.mux.asc.usac, unit)
+        except Broken as broken:
+            raise refused(f"frame {frame.number}", broken) from broken
         self.frames += 1
         self.configurations += frame.is_changed
         self.independent += unit.flag == "1"

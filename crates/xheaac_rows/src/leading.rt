@@ -1,7 +1,6 @@
 // Worked rows of `play` over configurations with a leading extension element.
-use crate::cases::{Case, IMMEDIATE, check_output, ended};
+use crate::cases::{Case, IMMEDIATE, check_output, ended, samples_of};
 use core_iface::{Core, FoldCore};
-use std::alloc::{AllocError, Global};
 use std::process::Abort;
 use std::test::Fail;
 use vectors::{EIGHT_FRAMES, bytes_of};
@@ -9,20 +8,9 @@ use vectors::{EIGHT_FRAMES, bytes_of};
 // A stream, the first sample of each frame that is played, and the refusal behind them.
 type Row<'a> = (&'a [u8], &'a [u16], &'a str);
 
-// The sample bytes of frames of 1024 samples that begin with these values.
-fn ramps(alloc: Global, firsts: &[u16]) -> Result<Vec<u8>, AllocError> {
-    let mut bytes = Vec::new(alloc);
-    for first in firsts {
-        for time in 0..1024u16 {
-            bytes.extend_from_slice(&first.wrapping_add(time).to_le_bytes())?;
-        }
-    }
-    Ok(bytes)
-}
-
 fn check_rows(rt: &(impl Abort + AllocGlobal), rows: &[Row<'_>]) -> Result<(), Fail> {
     for (bytes, firsts, note) in rows {
-        let wanted = ramps(rt.alloc(), firsts)?;
+        let wanted = samples_of(rt.alloc(), firsts)?;
         let status = if note.is_empty() { 0 } else { 1 };
         let case = Case {
             bytes,
@@ -51,7 +39,7 @@ fn plays_leading_elements(rt: HostRuntime) -> Result<(), Fail> {
     // the first access unit is 20
     let mut dependent = Vec::from_slice(alloc, &whole)?;
     dependent[17] = 0x12;
-    let rows: [Row<'_>; 8] = [
+    let rows: [Row<'_>; 7] = [
         (&whole, &[1, 7, 28, 40, 13, 31, 108, 335], ""),
         (
             &cut,
@@ -69,12 +57,6 @@ fn plays_leading_elements(rt: HostRuntime) -> Result<(), Fail> {
         (IMMEDIATE, &[2, 14, 51, 68, 15, 20, 74, 239], ""),
         (&short, &[1], "refused: frame 1 bit 3: frame too short\n"),
         (&dependent, &[], "refused: frame 0: not independent\n"),
-        // a first frame with a preroll
-        (
-            b"\x56\xE0\x1E\x20\x00\xF9\x46\x23\x21\x1C\xC0\x18\xE4\x00\x04\x3F\xC0\xFC\x19\x03\x21\x1C\xC0\x18\xE4\x00\x04\x02\x00\x03\x03\x80\x00",
-            &[],
-            "refused: frame 0: form not built\n",
-        ),
     ];
     check_rows(&rt, &rows)
 }

@@ -9,6 +9,8 @@ mod checks;
 #[cfg(test)]
 mod command_line;
 #[cfg(test)]
+mod joins;
+#[cfg(test)]
 mod leading;
 #[cfg(test)]
 mod opened;

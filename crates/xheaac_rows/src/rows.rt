@@ -55,8 +55,8 @@ fn plays_streams(rt: HostRuntime) -> Result<(), Fail> {
             "refused: frame 2 bit 2: out of profile: audioMuxVersionA\n",
             WHOLE,
         ),
-        // not taken yet
-        (CHANGED, "refused: frame 2: form not built\n", WHOLE),
+        // refused by a frame
+        (CHANGED, "refused: frame 2: no preroll\n", WHOLE),
         (EMPTIED, "refused: frame 1 bit 0: frame too short\n", one),
     ];
     for (bytes, note, case) in rows {
@@ -155,6 +155,25 @@ fn the_core_fails_at_the_third_step(rt: HostRuntime) -> Result<(), Fail> {
         check_output(&rt, piece, case, &wanted, &mut core)?;
     }
     Ok(())
+}
+
+#[test]
+fn a_device_fails_behind_the_first_frame(rt: HostRuntime) -> Result<(), Fail> {
+    let alloc = rt.alloc();
+    let bytes = bytes_of(alloc, EIGHT_FRAMES)?;
+    let wanted = samples_of(alloc, &[1])?;
+    let unread = Case {
+        bytes: &bytes,
+        failing_reads: &[20],
+        ..ended(3, 0, 1)
+    };
+    check_output(&rt, 1, unread, &wanted, &mut FoldCore::new())?;
+    let unwritten = Case {
+        bytes: &bytes,
+        failing_writes: &[2],
+        ..ended(4, 0, 2)
+    };
+    check_output(&rt, 5000, unwritten, &wanted, &mut FoldCore::new())
 }
 
 #[test]
