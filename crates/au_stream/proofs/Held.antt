@@ -1,8 +1,6 @@
 -- Access units that still stand in the LOAS frame that the reader holds.
-use Rattle.std.proofs.Common.{◌≡◌, ℕ, zero, suc, ◌+◌, ◌-◌, ◌*◌, ◌<◌, ◌≤◌, Bool, true, false, List, [], ◌∷◌, ◌++◌, length, get_or, take, drop, map, Option, Some, None, Result, Ok, Err, refl, sym, ap, subst, ◌∙◌, inl, inr, arith}
+use Rattle.std.proofs.Common.{◌≡◌, ℕ, zero, suc, ◌+◌, ◌*◌, ◌<◌, ◌≤◌, Bool, false, List, [], ◌∷◌, length, get_or, drop, Option, Some, None, refl, sym, ap, subst, ◌∙◌, arith}
 use Rattle.std.specs.Prelude.{is_some, slice_get}
-use Rattle.std.specs.List.{AllByRecursion}
-use Rattle.std.proofs.lemmas.Bool.{cases_lt}
 use Rattle.std.proofs.lemmas.List.{length-drop, drop_more, drop_all, length-map}
 use Rattle.std.proofs.lemmas.Option.{slice_get_within, get_or_from_slice_get}
 use Rattle.layout.specs.Text.{bits_of}
@@ -13,7 +11,6 @@ use Rattle.loas.proofs.Given.{begins-length}
 use Rattle.latm.specs.declared.fault.MuxFault.{MuxFault}
 use Rattle.latm.specs.Faults.{is_memory}
 use Rattle.latm.specs.declared.mux_config.MuxConfig.{MuxConfig}
-use Rattle.latm.specs.declared.mux_element.MuxElement.{MuxElement}
 use Rattle.latm.specs.declared.slot_place.SlotPlace.{SlotPlace}
 use Rattle.latm.specs.MuxElement.{element, then_in_force}
 use Rattle.latm.specs.MuxConfig.{IsWellFormed}
@@ -22,7 +19,7 @@ use Rattle.latm.specs.declared.places.Places.{Places}
 use Rattle.au_stream.specs.declared.event.Event.{Event}
 use Rattle.au_stream.specs.Elements.{IsElement}
 use Rattle.au_stream.specs.Reading.{Reading}
-use Rattle.au_stream.specs.Giving.{Tells, TookElement, Unread, Gave, past, refused_element}
+use Rattle.au_stream.specs.Giving.{Tells, Unread, Gave, past, refused_element}
 use Rattle.au_stream.specs.Held.{front_body, behind_read, slots_of, AreHeld, HoldsSlots, FoundSlots, IsNext, Passed, Opened}
 use Rattle.au_stream.specs.declared.event.EventHead.{EventHead}
 use Rattle.au_stream.specs.declared.event.Found.{Found}

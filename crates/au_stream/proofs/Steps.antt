@@ -1,6 +1,6 @@
 -- What a reader has given, from call to call.
 use Rattle.std.proofs.Common.{◌≡◌, ℕ, ◌+◌, ◌<◌, ◌≤◌, Bool, true, false, List, [], ◌∷◌, ◌++◌, length, take, drop, Option, Some, None, Result, Ok, Err, refl, sym, ap, subst, ◌∙◌, append_assoc, append-nil, arith, inl}
-use Rattle.std.specs.Prelude.{is_some, IsTrue, IsErr, ◌↔◌, reverse}
+use Rattle.std.specs.Prelude.{is_some, IsTrue, IsErr, ◌↔◌}
 use Rattle.std.specs.Option.{option_map}
 use Rattle.std.specs.Io.KnownBytes.{prepend_known}
 use Rattle.std.proofs.lemmas.List.{length-append, length-drop}

@@ -1,13 +1,12 @@
 -- A frame that a reader has found and not yet passed.
-use Rattle.std.specs.Prelude.{◌≡◌, ℕ, ◌+◌, ◌<◌, ◌≤◌, Bool, true, List, [], ◌∷◌, length, get_or, drop, is_some, Option, Some, None, Result, Ok, Err}
+use Rattle.std.specs.Prelude.{◌≡◌, ℕ, ◌+◌, ◌<◌, ◌≤◌, Bool, true, List, [], length, get_or, drop, Option, Some, None, Result, Ok, Err}
 use Rattle.au_stream.specs.declared.event.Event.{Event}
 use Rattle.au_stream.specs.declared.event.EventHead.{EventHead}
 use Rattle.au_stream.specs.declared.event.Found.{Found}
 use Rattle.au_stream.specs.declared.fault.StreamFault.{StreamFault}
 use Rattle.au_stream.specs.Frames.{Frame}
-use Rattle.au_stream.specs.Reading.{Reading, HasRead}
+use Rattle.au_stream.specs.Reading.{Reading}
 use Rattle.au_stream.specs.Taking.{Seen}
-use Rattle.latm.specs.declared.mux_config.MuxConfig.{MuxConfig}
 use Rattle.au_stream.specs.Giving.{weight, Unread}
 use Rattle.au_stream.specs.Held.{Opened}
 use Rattle.au_stream.specs.Events.{Reads}

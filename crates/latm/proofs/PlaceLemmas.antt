@@ -1,8 +1,7 @@
 -- Slots that are found where they stand.
-use Rattle.std.proofs.Common.{◌≡◌, ℕ, zero, suc, ◌+◌, ◌*◌, ◌<◌, ◌≤◌, Bool, true, false, List, [], ◌∷◌, ◌++◌, length, get_or, take, drop, map, Option, Some, None, Bor, Result, Ok, Err, refl, sym, ap, subst, ◌∙◌, inl, inr, arith}
+use Rattle.std.proofs.Common.{◌≡◌, ℕ, zero, suc, ◌+◌, ◌*◌, ◌<◌, ◌≤◌, Bool, true, false, List, [], ◌∷◌, ◌++◌, length, get_or, take, drop, Option, Some, None, Bor, Result, Ok, Err, refl, sym, ap, subst, ◌∙◌, inl, inr, arith}
 use Rattle.std.specs.Prelude.{IfErr, OnOk, OnErr, IsErr, IsErrAnd, ◌↔◌, is_some}
 use Rattle.std.specs.Result.{is_err}
-use Rattle.std.specs.List.{AllByRecursion}
 use Rattle.std.specs.Option.{option_copied}
 use Rattle.std.proofs.lemmas.Bool.{cases_lt}
 use Rattle.std.proofs.lemmas.List.{length-take-le, length-drop, take-append-drop, take-take, drop-drop, drop-take}
@@ -22,7 +21,6 @@ use Rattle.bit_core.specs.Faults.{is_memory as is_free}
 use Rattle.bit_core.specs.Plain.{octets, bit_run}
 use Rattle.bit_core.proofs.PlainFacts.{octets_give, octets_short, run_gives, run_short}
 use Rattle.latm.specs.declared.fault.MuxFault.{MuxFault}
-use Rattle.latm.specs.declared.fault.MuxFault.TheVariants as faults
 use Rattle.latm.specs.declared.mux_config.MuxConfig.{MuxConfig}
 use Rattle.latm.specs.declared.mux_element.MuxElement.{MuxElement}
 use Rattle.latm.specs.declared.places.Places.{Places}
@@ -30,7 +28,7 @@ use Rattle.latm.specs.declared.slot_place.SlotPlace.{SlotPlace}
 use Rattle.latm.specs.Faults.{is_memory, from_short}
 use Rattle.latm.specs.MuxElement.{then_in_force, slot_count, other_bits, opening, slot_of_bytes, other_data, body, element}
 use Rattle.latm.specs.MuxElementExact.{element_exact}
-use Rattle.latm.specs.Places.{bytes_in, slot_at, slots_at, IsWithin, AreWithin, HasPlaces, ReadsPlaces, passed_bytes, passed_bits, FindsBody, FindsElement}
+use Rattle.latm.specs.Places.{bytes_in, slot_at, slots_at, IsWithin, AreWithin, ReadsPlaces, passed_bytes, FindsBody, FindsElement}
 
 -- ---- the bytes that bits spell
 

@@ -1,5 +1,5 @@
 -- What is written of an AudioMuxElement, and the canonical mux (ISO/IEC 14496-3, AudioMuxElement and AudioSyncStream).
-use Rattle.std.specs.Prelude.{◌≡◌, ℕ, ◌+◌, ◌/◌, ◌%◌, ◌<◌, ◌≤◌, Bool, true, false, List, [], ◌∷◌, ◌++◌, length, Option, Some, None, Result, IfOk, IfErr}
+use Rattle.std.specs.Prelude.{◌≡◌, ℕ, ◌/◌, ◌<◌, ◌≤◌, Bool, true, false, List, [], ◌∷◌, ◌++◌, length, Option, Some, None, Result, IfOk, IfErr}
 use Rattle.layout.specs.Text.{bits_of, pad}
 use Rattle.asc.specs.declared.asc_config.Asc.{Asc}
 use Rattle.loas.specs.Framing.{header}

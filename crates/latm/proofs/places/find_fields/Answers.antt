@@ -1,5 +1,4 @@
-use Rattle.std.proofs.Common.{◌≡◌, ◌∙◌, sym, subst, rules, Ok, Err}
-use Rattle.std.specs.Prelude.{is_some}
+use Rattle.std.proofs.Common.{◌∙◌, sym, subst, Ok, Err}
 use Rattle.std.specs.Option.{option_copied}
 use Rattle.std.proofs.lemmas.Result.{err_from_is_err_and}
 use Rattle.layout.specs.Reading.{GivesUnless}

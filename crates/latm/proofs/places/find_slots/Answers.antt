@@ -1,9 +1,9 @@
-use Rattle.std.proofs.Common.{◌≡◌, List, ◌∷◌, ◌++◌, [], length, sym, ap, subst, ◌∙◌, arith}
+use Rattle.std.proofs.Common.{◌≡◌, ◌∷◌, ◌++◌, [], length, subst, ◌∙◌, arith}
 use Rattle.std.proofs.lemmas.List.{map-append}
 use Rattle.layout.specs.Times.{times_read}
 use Rattle.layout.proofs.Counted.{goes_on}
 use Rattle.latm.specs.MuxElement.{slot_of_bytes}
-use Rattle.latm.specs.Places.{slot_at, slots_at, IsWithin, AreWithin}
+use Rattle.latm.specs.Places.{slot_at, slots_at, IsWithin}
 use Rattle.latm.proofs.PlaceLemmas.{slot_gives, push_within}
 use Rattle.latm.proofs.places.find_slots.Goals as goal
 

@@ -1,4 +1,4 @@
-use Rattle.std.proofs.Common.{◌≡◌, ◌∙◌, length, drop, sym, ap}
+use Rattle.std.proofs.Common.{◌∙◌, length, drop, sym, ap}
 use Rattle.layout.specs.Text.{bits_of}
 use Rattle.latm.proofs.PlaceLemmas.{length-bytes_in}
 use Rattle.au_stream.specs.declared.event.Event.{Event}

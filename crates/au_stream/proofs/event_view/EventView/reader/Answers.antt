@@ -1,4 +1,4 @@
-use Rattle.std.proofs.Common.{◌≡◌, ℕ, ◌≤◌, ◌+◌, ◌*◌, ◌∙◌, length, drop, take, sym, ap, arith}
+use Rattle.std.proofs.Common.{ℕ, ◌≤◌, ◌+◌, ◌*◌, ◌∙◌, length, drop, take, sym, ap, arith}
 use Rattle.std.proofs.lemmas.List.{length-drop, drop-take}
 use Rattle.layout.specs.Text.{bits_of}
 use Rattle.layout.specs.Reader.{Reader, left}

@@ -1,9 +1,9 @@
-use Rattle.std.proofs.Common.{◌≡◌, ◌<◌, false, length, List, [], None, Some, Ok, drop, refl, sym, ap, subst, ◌∙◌, arith}
+use Rattle.std.proofs.Common.{◌≡◌, ◌<◌, false, length, [], None, Ok, drop, refl, sym, ap, subst, ◌∙◌, arith}
 use Rattle.au_stream.specs.declared.event.Found.{Found}
 use Rattle.std.proofs.lemmas.List.{drop_all}
 use Rattle.std.proofs.lemmas.Result.{err_from_is_err_and}
 use Rattle.au_stream.specs.Reading.{Reading}
-use Rattle.au_stream.specs.Giving.{Gave, Unread}
+use Rattle.au_stream.specs.Giving.{Unread}
 use Rattle.au_stream.specs.Taking.{seen}
 use Rattle.au_stream.specs.Events.{Reads}
 use Rattle.au_stream.specs.Views.{Enters}

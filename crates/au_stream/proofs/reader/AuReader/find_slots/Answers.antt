@@ -1,6 +1,5 @@
-use Rattle.std.proofs.Common.{◌≡◌, ℕ, ◌≤◌, List, [], false, Option, length, drop, refl, sym, ap, subst, arith}
+use Rattle.std.proofs.Common.{◌≡◌, ℕ, List, [], false, Option, length, drop, refl, sym, ap, subst, arith}
 use Rattle.layout.specs.Text.{bits_of}
-use Rattle.loas.specs.Framing.{BeginsWithFrame}
 use Rattle.loas.proofs.Given.{begins-length}
 use Rattle.latm.specs.declared.mux_config.MuxConfig.{MuxConfig}
 use Rattle.latm.specs.Faults.{is_memory}

@@ -1,4 +1,4 @@
-use Rattle.std.proofs.Common.{◌≡◌, ℕ, ◌+◌, ◌<◌, ◌≤◌, length, ◌∙◌, arith}
+use Rattle.std.proofs.Common.{◌+◌, ◌<◌, ◌≤◌, length, ◌∙◌, arith}
 use Rattle.loas.specs.Framer.{past_frame, pushed}
 use Rattle.au_stream.specs.Script.{most_bytes}
 use Rattle.au_stream.proofs.Held.{is_left, next_held, pushed_past, passed_more, passed_last, passed_is, holds_more, holds_last}

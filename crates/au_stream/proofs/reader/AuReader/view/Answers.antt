@@ -3,7 +3,7 @@ use Rattle.std.specs.Prelude.{slice_get, List, ℕ}
 use Rattle.layout.specs.Text.{bits_of}
 use Rattle.latm.specs.Places.{slot_at}
 use Rattle.au_stream.specs.Reading.{Reading}
-use Rattle.au_stream.specs.Views.{event_with, next_au, next_event}
+use Rattle.au_stream.specs.Views.{event_with, next_au}
 use Rattle.au_stream.proofs.Held.{is_left, is_next, next_is, next_held, next_within, never_none}
 use Rattle.au_stream.proofs.reader.AuReader.view.Goals as goal
 

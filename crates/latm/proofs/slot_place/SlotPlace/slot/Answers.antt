@@ -1,6 +1,5 @@
-use Rattle.std.proofs.Common.{◌≡◌, ℕ, ◌+◌, ◌*◌, ◌≤◌, length, sym, ap, ◌∙◌, arith}
+use Rattle.std.proofs.Common.{ℕ, ◌+◌, ◌*◌, ◌≤◌, length, ap, ◌∙◌, arith}
 use Rattle.layout.specs.Text.{bits_of}
-use Rattle.layout.specs.Reader.{Reader}
 use Rattle.layout.proofs.TextLemmas.{length-bits_of}
 use Rattle.latm.proofs.PlaceLemmas.{around, slot_taken, slot_never_short}
 use Rattle.latm.proofs.slot_place.SlotPlace.slot.Goals as goal
