@@ -1,4 +1,4 @@
-use Rattle.std.proofs.Common.{◌≡◌, ℕ, List, Bool, Ok, sym, ◌∙◌}
+use Rattle.std.proofs.Common.{◌≡◌, ℕ, List, Ok, sym, ◌∙◌}
 use Rattle.layout.specs.Text.{bits_of}
 use Rattle.layout.specs.Reader.{Reader, left}
 use Rattle.usac_cfg.specs.declared.usac_config.UsacConfig.{UsacConfig}

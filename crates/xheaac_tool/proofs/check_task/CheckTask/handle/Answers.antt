@@ -1,10 +1,9 @@
-use Rattle.std.proofs.Common.{◌≡◌, true, Ok, Err, sym, ap, subst, ◌∙◌}
+use Rattle.std.proofs.Common.{◌≡◌, true, sym, ap, ◌∙◌}
 use Rattle.std.proofs.lemmas.Bool.{false≢true}
 use Rattle.std.proofs.lemmas.Result.{err_from_is_err_and}
 use Rattle.usac_frame.specs.Head.{with_rest}
 use Rattle.usac_frame.specs.Units.{is_immediate}
-use Rattle.xheaac_tool.specs.Reading.{ReadsUnit, ReadsUnitHead}
-use Rattle.xheaac_tool.specs.Counting.{counted, KeepsRules, IsBad}
+use Rattle.xheaac_tool.specs.Counting.{counted, KeepsRules}
 use Rattle.xheaac_tool.proofs.CheckSteps.{check_unread, check_bad, check_did, good_keeps, counts_few, counts_more}
 use Rattle.commands.proofs.Going.{append-none}
 use Rattle.xheaac_tool.proofs.check_task.CheckTask.handle.Goals as goal

@@ -1,7 +1,5 @@
-use Rattle.std.proofs.Common.{subst, Ok, Err}
 use Rattle.std.proofs.lemmas.Result.{err_from_is_err_and}
 use Rattle.usac_frame.specs.Head.{with_rest}
-use Rattle.xheaac_tool.specs.Reading.{ReadsUnit, ReadsUnitHead}
 use Rattle.xheaac_tool.proofs.Lines.{show_unopened, show_stopped, show_did, show_unread}
 use Rattle.xheaac_tool.proofs.show_task.ShowTask.handle.Goals as goal
 
