@@ -3,5 +3,4 @@ pub mod Growing
 pub mod PlayerSteps
 pub mod PlaySteps
 pub mod CheckSteps
-pub mod Runs
 pub mod UnitFrames

@@ -1,1 +1,0 @@
--- What the top call answers, from what its command did.
