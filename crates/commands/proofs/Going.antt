@@ -81,14 +81,14 @@ starts j laws H old left before reader read none = record {
   output = append-none before ∙ ap (λ (x : List ℕ). append_known before x) (sym laws.nothing);
 }
 
--- a frame that was found, by its event
-pub shown : (got : List ℕ) (given : List Frame) (old new : Reading) (before now : Seen) (head : EventHead) (event : Event) → event ≡ next_event new head
-    → Reads got given old (after_next new) before now (Ok (Some (next_event new head))) → Reads got given old (after_next new) before now (Ok (Some event))
-shown got given old new before now head event is reads = subst (λ (e : Event). Reads got given old (after_next new) before now (Ok (Some e))) (sym is) reads
+-- a frame that was found, by its event and the reader behind it
+pub shown : (got : List ℕ) (given : List Frame) (old new behind : Reading) (before now : Seen) (head : EventHead) (event : Event) → event ≡ next_event new head → behind ≡ after_next new
+    → Reads got given old (after_next new) before now (Ok (Some (next_event new head))) → Reads got given old behind before now (Ok (Some event))
+shown got given old new behind before now head event is passed reads = rw (is, passed) reads
 
 -- the configuration in force is that of the last frame, behind the frame that was found
-pub in_force_there : (mux : Option MuxConfig) (new : Reading) → mux ≡ new.in_force → (taken : List ℕ) (fs : List Frame) → HasRead taken fs (after_next new) → mux ≡ option_map (λ (f : Frame). f.mux) (last_of fs)
-in_force_there mux new is taken fs read = is ∙ read.last
+pub in_force_there : (mux : Option MuxConfig) (new behind : Reading) → mux ≡ new.in_force → behind ≡ after_next new → (taken : List ℕ) (fs : List Frame) → HasRead taken fs behind → mux ≡ option_map (λ (f : Frame). f.mux) (last_of fs)
+in_force_there mux new behind is passed taken fs read = is ∙ sym (ap (λ (r : Reading). r.in_force) passed) ∙ read.last
 
 -- the frame of an event
 pub record Next (got : List ℕ) (given : List Frame) (new : Reading) (event : Event) (mux : MuxConfig) : Type 0 where

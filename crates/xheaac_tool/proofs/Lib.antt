@@ -3,4 +3,3 @@ pub mod Growing
 pub mod PlayerSteps
 pub mod PlaySteps
 pub mod CheckSteps
-pub mod UnitFrames

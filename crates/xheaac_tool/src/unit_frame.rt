@@ -7,7 +7,7 @@ use commands::FrameEnd;
 use std::alloc::Global;
 use tool_text::{Place, Reason, Refusal};
 use usac_cfg::UsacConfig;
-use usac_frame::{Frame, FrameFault, FrameHead, read_frame, read_head, read_head_at};
+use usac_frame::{Frame, FrameFault, FrameHead, read_frame, read_head_at};
 
 /// How a command ends at the frame with that number, which lacks bits from that bit on.
 pub fn too_short(number: u64, at: u64) -> FrameEnd
@@ -51,27 +51,13 @@ pub fn read_unit_head(
     ensures judges { IfErr result IsJudgement }
 {
     let mut reader = event.reader();
-    match read_head_at(alloc, config, &mut reader) {
-        Ok(head) => Ok(head),
-        // the place of the fault counts from the first bit of the access unit
-        Err(_) => read_copied_head(alloc, event, config),
+    if let Ok(head) = read_head_at(alloc, config, &mut reader) {
+        return Ok(head);
     }
-}
-
-/// The same of a copy of the access unit.
-fn read_copied_head(
-    alloc: Global,
-    event: &EventView,
-    config: &UsacConfig,
-) -> Result<FrameHead, FrameEnd>
-    requires { length event.now.au ≤ 8191 }
-    ensures reads { ReadsUnitHead event.now.frame config.now event.now.au result }
-    ensures judges { IfErr result IsJudgement }
-{
-    let au = event.au(alloc)?;
-    match read_head(alloc, config, au.as_slice()) {
-        Ok(head) => Ok(head),
-        Err(FrameFault::Short { at }) => Err(too_short(event.frame(), at)),
-        Err(FrameFault::Memory(error)) => Err(FrameEnd::Memory(error)),
-    }
+    // read once more, for a fault whose place counts from the first bit of the access unit
+    let frame = read_unit_frame(alloc, event, config)?;
+    Ok(FrameHead {
+        independent: frame.independent,
+        leading: frame.leading,
+    })
 }

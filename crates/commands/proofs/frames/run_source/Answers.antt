@@ -49,7 +49,7 @@ unreachable-requires g c =
     let s = c.frames.invariant.so_far st.0 st.1 in
     let found = rw c.in-Ok-Some.field-0-is at c.in-Ok-Some.ensures in
     let p = found.finds s.got s.given s.read in
-    no_frame _ _ _ (after_next c.find.new.self) _ _ _ p (in_force_there _ c.find.new.self (rw c.in_default.is at c.mux.ensures.in_force))
+    no_frame _ _ _ (after_next c.find.new.self) _ _ _ p (in_force_there _ c.find.new.self _ (rw c.in_default.is at c.mux.ensures.in_force) refl)
 
 pub handle-requires-clause-size : goal.handle-requires-clause-size
 handle-requires-clause-size g c =
@@ -69,7 +69,7 @@ handle-requires-clause-few g c =
     let st = c.requires.stands in
     let s = c.frames.invariant.so_far st.0 st.1 in
     let found = rw c.in-Ok-Some.field-0-is at c.in-Ok-Some.ensures in
-    let k = (shown _ _ _ c.find.new.self _ _ _ c.view.result c.view.ensures (found.finds s.got s.given s.read)).leaves in
+    let k = (shown _ _ _ c.find.new.self (after_next c.find.new.self) _ _ _ c.view.result c.view.ensures refl (found.finds s.got s.given s.read)).leaves in
     omega (arith, k.1.number, s.read.holds.counted, c.frames.invariant.few)
 
 pub handle-requires-clause-stands : goal.handle-requires-clause-stands
@@ -77,15 +77,15 @@ handle-requires-clause-stands g c =
     let st = c.requires.stands in
     let s = c.frames.invariant.so_far st.0 st.1 in
     let found = rw c.in-Ok-Some.field-0-is at c.in-Ok-Some.ensures in
-    let k = (shown _ _ _ c.find.new.self _ _ _ c.view.result c.view.ensures (found.finds s.got s.given s.read)).leaves in
+    let k = (shown _ _ _ c.find.new.self (after_next c.find.new.self) _ _ _ c.view.result c.view.ensures refl (found.finds s.got s.given s.read)).leaves in
     (st.0, s.given, sym k.1.number, s.holds)
 
 pub returns-in-Err-handle-clause-does : goal.returns-in-Err-handle-clause-does
 returns-in-Err-handle-clause-does g c = λ at stands.
     let s = c.frames.invariant.so_far at stands in
     let found = rw c.in-Ok-Some.field-0-is at c.in-Ok-Some.ensures in
-    let p = shown _ _ _ c.find.new.self _ _ _ c.view.result c.view.ensures (found.finds s.got s.given s.read) in
-    let n = next_frame _ _ _ _ _ _ c.view.result c.in-Some.mux.now p (in_force_there _ c.find.new.self (rw c.in-Some.is at c.mux.ensures.in_force)) in
+    let p = shown _ _ _ c.find.new.self (after_next c.find.new.self) _ _ _ c.view.result c.view.ensures refl (found.finds s.got s.given s.read) in
+    let n = next_frame _ _ _ _ _ _ c.view.result c.in-Some.mux.now p (in_force_there _ c.find.new.self (after_next c.find.new.self) (rw c.in-Some.is at c.mux.ensures.in_force) refl) in
     let handled = c.in-Err-handle.ensures.handles at s.given n.frame n.is n.mux_is s.holds in
     stopped (g.T.Task.command at g.C.Core.does) (λ frames. g.T.Task.Stands g.C.Core.does at frames c.frames.task (g.C.Core.meaning c.frames.core).ready) (λ frames. g.T.Task.Stands g.C.Core.does at frames c.handle.new.self (g.C.Core.meaning c.handle.new.core).ready)
     _ _ _ _ _ _ _ _ _ _ _ _ _ c.view.result c.in-Some.mux.now c.in-Err-handle.end _ c.within-within-in-frames.result s p n handled (c.within-within-in-frames.ensures at s.given _ s.holds) c.stopped_by.ensures
@@ -97,8 +97,8 @@ returns-in-Err-handle-clause-calm_decodes g c = λ at stands text here served ca
     let H = λ (frames : List Frame). g.T.Task.Stands g.C.Core.does at frames c.frames.task (g.C.Core.meaning c.frames.core).ready in
     let s = subst (λ left. GoesOn job H (g.C.Core.meaning c.args.core.now) (g.C.Core.meaning c.frames.core) left (g.S.Source.left c.frames.source) (g.K.Sink.written c.args.out.now) (g.K.Sink.written c.frames.out) c.frames.reader) here (c.frames.invariant.so_far at stands) in
     let found = rw c.in-Ok-Some.field-0-is at c.in-Ok-Some.ensures in
-    let p = shown _ _ _ c.find.new.self _ _ _ c.view.result c.view.ensures (found.finds s.got s.given s.read) in
-    let n = next_frame _ _ _ _ _ _ c.view.result c.in-Some.mux.now p (in_force_there _ c.find.new.self (rw c.in-Some.is at c.mux.ensures.in_force)) in
+    let p = shown _ _ _ c.find.new.self (after_next c.find.new.self) _ _ _ c.view.result c.view.ensures refl (found.finds s.got s.given s.read) in
+    let n = next_frame _ _ _ _ _ _ c.view.result c.in-Some.mux.now p (in_force_there _ c.find.new.self (after_next c.find.new.self) (rw c.in-Some.is at c.mux.ensures.in_force) refl) in
     let each = frame_of_file job H job.Serves _ _ text _ _ _ _ _ _ _ _ c.view.result c.in-Some.mux.now s p n served in
     c.in-Err-handle.ensures.calm_decodes at s.given n.frame n.is n.mux_is s.holds (c.frames.invariant.calm_core calm) each (ap (λ (e : FrameEnd). failed {A = Unit {0}} e) is_core)
 
@@ -118,14 +118,10 @@ frames-preserved g c =
     record {
       so_far = λ at stands.
           let s = c.frames.invariant.so_far at stands in
-          let p = shown _ _ _ c.find.new.self _ _ _ c.view.result c.view.ensures (found.finds s.got s.given s.read) in
-          let n = next_frame _ _ _ _ _ _ c.view.result c.in-Some.mux.now p (in_force_there _ c.find.new.self (rw c.in-Some.is at c.mux.ensures.in_force)) in
-          subst
-          (λ (r : Reading). GoesOn (g.T.Task.command at g.C.Core.does) (λ frames. g.T.Task.Stands g.C.Core.does at frames c.handle.new.self (g.C.Core.meaning c.handle.new.core).ready) (g.C.Core.meaning c.args.core.now) (g.C.Core.meaning c.handle.new.core)
-          (g.S.Source.left c.args.source.now) (g.S.Source.left c.find.new.source) (g.K.Sink.written c.args.out.now) (g.K.Sink.written c.handle.new.out) r)
-          (sym c.pass.ensures.passed)
-          (goes_on (g.T.Task.command at g.C.Core.does) (λ frames. g.T.Task.Stands g.C.Core.does at frames c.frames.task (g.C.Core.meaning c.frames.core).ready) (λ frames. g.T.Task.Stands g.C.Core.does at frames c.handle.new.self (g.C.Core.meaning c.handle.new.core).ready)
-          _ _ _ _ _ _ _ _ _ _ _ _ _ c.view.result c.in-Some.mux.now s p n (c.in-Ok.ensures.handles at s.given n.frame n.is n.mux_is s.holds) (c.in-Ok.ensures.stands at s.given n.frame n.is n.mux_is s.holds));
+          let p = shown _ _ _ c.find.new.self c.pass.new.self _ _ _ c.view.result c.view.ensures c.pass.ensures.passed (found.finds s.got s.given s.read) in
+          let n = next_frame _ _ _ _ _ _ c.view.result c.in-Some.mux.now p (in_force_there _ c.find.new.self c.pass.new.self (rw c.in-Some.is at c.mux.ensures.in_force) c.pass.ensures.passed) in
+          goes_on (g.T.Task.command at g.C.Core.does) (λ frames. g.T.Task.Stands g.C.Core.does at frames c.frames.task (g.C.Core.meaning c.frames.core).ready) (λ frames. g.T.Task.Stands g.C.Core.does at frames c.handle.new.self (g.C.Core.meaning c.handle.new.core).ready)
+          _ _ _ _ _ _ _ _ _ _ _ _ _ c.view.result c.in-Some.mux.now s p n (c.in-Ok.ensures.handles at s.given n.frame n.is n.mux_is s.holds) (c.in-Ok.ensures.stands at s.given n.frame n.is n.mux_is s.holds);
       few = c.pass.ensures.few;
       source_faults = found.caused ∙ c.frames.invariant.source_faults;
       out_faults = c.in-Ok.ensures.caused.0 ∙ c.frames.invariant.out_faults;
@@ -159,8 +155,8 @@ returns-in-Err-handle-clause-few g c =
     let H = λ (frames : List Frame). g.T.Task.Stands g.C.Core.does st.0 frames c.frames.task (g.C.Core.meaning c.frames.core).ready in
     let s = c.frames.invariant.so_far st.0 st.1 in
     let found = rw c.in-Ok-Some.field-0-is at c.in-Ok-Some.ensures in
-    let p = shown _ _ _ c.find.new.self _ _ _ c.view.result c.view.ensures (found.finds s.got s.given s.read) in
-    let n = next_frame _ _ _ _ _ _ c.view.result c.in-Some.mux.now p (in_force_there _ c.find.new.self (rw c.in-Some.is at c.mux.ensures.in_force)) in
+    let p = shown _ _ _ c.find.new.self (after_next c.find.new.self) _ _ _ c.view.result c.view.ensures refl (found.finds s.got s.given s.read) in
+    let n = next_frame _ _ _ _ _ _ c.view.result c.in-Some.mux.now p (in_force_there _ c.find.new.self (after_next c.find.new.self) (rw c.in-Some.is at c.mux.ensures.in_force) refl) in
     let handled = c.in-Err-handle.ensures.handles st.0 s.given n.frame n.is n.mux_is s.holds in
     let laws = c.is_command.ensures.command st.0 in
     omega (arith, handled_few (g.T.Task.command st.0 g.C.Core.does) laws s.given n.frame _ _ _ _ c.in-Err-handle.end handled, given_fed (g.T.Task.command st.0 g.C.Core.does) laws H _ _ _ _ _ _ _ s, c.frames.invariant.few)
