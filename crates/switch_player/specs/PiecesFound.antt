@@ -9,8 +9,9 @@ use Rattle.usac_frame.specs.Units.{UnitValue}
 use Rattle.core_iface.specs.Decoding.{Definitions, out, after}
 use Rattle.preroll.specs.Carrying.{Shown, units_in}
 use Rattle.plans.specs.Plans.{Piece, frames_of}
+use Rattle.plans.specs.StreamUnits.{units_of, head_of}
 use Rattle.plans.specs.Laws.{AreOf}
-use Rattle.switch_player.specs.Streams.{units_of, head_of, left}
+use Rattle.switch_player.specs.Streams.{left}
 use Rattle.switch_player.specs.Cuts.{blocks_of}
 use Rattle.switch_player.specs.OutsFound.{out-append, after-append, length-out}
 
