@@ -7,14 +7,14 @@ use Rattle.core_iface.specs.Decoding.{Definitions}
 use Rattle.preroll.specs.Carrying.{Shown}
 use Rattle.plans.specs.Segments.{own}
 use Rattle.plans.specs.Coded.{Coded}
-use Rattle.plans.specs.Parts.{Part, spliced}
+use Rattle.plans.specs.Parts.{Part, IsPart, spliced}
 use Rattle.plans.specs.OwnPlan.{own_plan}
-use Rattle.plans.specs.SoundPlan.{IsSoundPlan}
+use Rattle.plans.specs.SoundPlan.{BeginsWarm, IsSoundPlan}
 use Rattle.switch_player.specs.declared.fault.PlayFault.{PlayFault}
 use Rattle.switch_player.specs.Rules.{Refuses, RefusesAt}
 use Rattle.switch_player.specs.Playing.{played}
 use Rattle.switch_player.specs.Cuts.{cut, cut_plan}
-use Rattle.switch_player.specs.Splices.{TakesFrames, IsOwnSplice, IsBlockOf}
+use Rattle.switch_player.specs.Splices.{TakesFrames, IsOwnSplice, IsBlockOf, StartsWarm}
 
 -- A frame is refused by one rule at most. So each rule is answered exactly where it is the first that is broken.
 pub record IsRefusedOnce (d : Definitions) : Type 0 where
@@ -41,3 +41,7 @@ TakesSplicesAlone d = (fs : List Coded) → All (λ f. IsWellFormed f.config) fs
 -- The cut of a sound plan has one block for each frame that it splices, in order, and no other.
 abbrev pub CutsEachFrame : Definitions → Type 0
 CutsEachFrame d = (plan : List Part) → IsSoundPlan d.warm plan → AllZip IsBlockOf (spliced plan) (cut_plan d plan)
+
+-- A start at a part that begins warm is as good as one at the beginning of its stream.
+abbrev pub StartsSoundly : Definitions → Type 0
+StartsSoundly d = (p : Part) → IsPart p → BeginsWarm d.warm p → StartsWarm d p
