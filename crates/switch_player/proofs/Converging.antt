@@ -1,13 +1,12 @@
 -- What a sound plan splices is played as the plan is cut.
-use Rattle.std.proofs.Common.{◌≡◌, ℕ, ◌+◌, ◌-◌, ◌≤◌, ◌<◌, List, [], ◌∷◌, ◌++◌, length, take, drop, map, Some, None, Ok, true, refl, ap, sym, subst, ◌∙◌, arith, ◌⊎◌, inl, inr}
-use Rattle.std.specs.Prelude.{All, slice_get}
+use Rattle.std.proofs.Common.{◌≡◌, ℕ, ◌+◌, ◌-◌, ◌≤◌, ◌<◌, List, [], ◌∷◌, ◌++◌, length, take, map, Some, None, true, ap, sym, subst, ◌∙◌, arith, ◌⊎◌, inl, inr}
+use Rattle.std.specs.Prelude.{slice_get}
 use Rattle.std.proofs.lemmas.List.{length-map, take_at}
 use Rattle.std.proofs.lemmas.List.Elements.{All-head, All-map, All-weaker, All-take, All-drop, All-same}
 use Rattle.usac_cfg.specs.declared.usac_config.UsacConfig.{UsacConfig}
 use Rattle.usac_cfg.specs.UsacConfig.{IsWellFormed}
 use Rattle.usac_cfg.specs.Same.{same}
 use Rattle.usac_cfg.specs.SameFound.{same_equal, same_false}
-use Rattle.usac_frame.specs.Units.{UnitValue}
 use Rattle.preroll.specs.Carrying.{Carried, Shown, units_in}
 use Rattle.core_iface.specs.Decoding.{Definitions}
 use Rattle.core_iface.specs.Laws.{StaysSound, WarmsUp, BeginsIndependent}
@@ -15,7 +14,7 @@ use Rattle.plans.specs.Segments.{own}
 use Rattle.plans.specs.Laws.{AreOf, Differ}
 use Rattle.plans.specs.Coded.{Coded, coded_shown, IsCoded, CarriesUnits}
 use Rattle.plans.specs.WholeStream.{IsWholeStream, stream_config}
-use Rattle.plans.specs.StreamUnits.{units_of, head_of, IsFaithful}
+use Rattle.plans.specs.StreamUnits.{head_of, IsFaithful}
 use Rattle.plans.specs.Level.{IsLevel, AreLevel}
 use Rattle.plans.specs.Parts.{Part, IsPart, spliced, part_shown}
 use Rattle.plans.specs.SoundPlan.{BeginsWarm, AreJoined, IsSoundPlan}

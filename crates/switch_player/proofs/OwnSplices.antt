@@ -128,8 +128,7 @@ runs_before d last f ((g ∷ gs) ∷ rs) i takes h = by_test (same f.config g.co
   where
     by_test : (b : Bool) → same f.config g.config ≡ b → Runs d last (if b then (f ∷ g ∷ gs) ∷ rs else (f ∷ []) ∷ (g ∷ gs) ∷ rs)
     by_test true t =
-        let e : f.config ≡ g.config = same_true f.config g.config i.config (All-head IsCoded g gs h.2).config t in
-        (
+        let e : f.config ≡ g.config = same_true f.config g.config i.config (All-head IsCoded g gs h.2).config t in (
           takes,
           All-cons (λ x. x.config ≡ f.config) f (g ∷ gs) refl (All-weaker (λ x. x.config ≡ g.config) (λ x. x.config ≡ f.config) (λ x q. q ∙ sym e) (g ∷ gs) h.1),
           All-cons IsCoded f (g ∷ gs) i h.2,
@@ -157,8 +156,7 @@ joined_runs d c [] n h = tt
 joined_runs d c ([] ∷ rs) n h = absurd h
 joined_runs d c ((f ∷ fs) ∷ rs) n h =
     let i = All-head IsCoded f fs h.2 in
-    let j = joins_of d c f i n h.0 in
-    (
+    let j = joins_of d c f i n h.0 in (
       record { stream = (h.1, h.2, inr (j.carried, j.carries)); some = omega arith; within = omega arith },
       j.level,
       record { frame = f; carried = j.carried; first = refl; carries = j.carries; enough = j.enough; faithful = faithful_first f fs j.carried i.config j.carries },

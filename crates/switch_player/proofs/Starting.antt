@@ -1,14 +1,13 @@
 -- A start at a warm frame of a whole stream gives the stream's own blocks from there on.
-use Rattle.std.proofs.Common.{◌≡◌, ◌≤◌, List, [], ◌∷◌, ◌++◌, length, map, Some, ap, sym, subst, ◌∙◌, inr}
+use Rattle.std.proofs.Common.{◌≡◌, ◌≤◌, List, [], ◌∷◌, length, map, Some, ap, sym, subst, ◌∙◌, inr}
 use Rattle.std.specs.Prelude.{slice_range}
 use Rattle.std.proofs.lemmas.List.{append-nil}
 use Rattle.preroll.specs.Carrying.{Carried}
 use Rattle.core_iface.specs.Decoding.{Definitions}
 use Rattle.core_iface.specs.Laws.{StaysSound, WarmsUp}
 use Rattle.plans.specs.Coded.{Coded, coded_shown, CarriesUnits}
-use Rattle.plans.specs.Parts.{Part, IsPart, part_frames}
+use Rattle.plans.specs.Parts.{part_frames}
 use Rattle.plans.specs.OwnPlan.{own_plan}
-use Rattle.plans.specs.SoundPlan.{BeginsWarm}
 use Rattle.switch_player.specs.declared.turn.Turn.TheVariants.{Start}
 use Rattle.switch_player.specs.Rules.{RefusesAt, TakesBy}
 use Rattle.switch_player.specs.Streams.{alone}
