@@ -1,4 +1,11 @@
 pub mod Plans
 pub mod Segments
+pub mod Coded
+pub mod WholeStream
+pub mod Parts
+pub mod OwnPlan
+pub mod StreamUnits
+pub mod Level
+pub mod SoundPlan
 pub mod Laws
 pub mod SegmentsFound

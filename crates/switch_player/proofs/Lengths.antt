@@ -11,7 +11,7 @@ use Rattle.preroll.specs.Carrying.{Shown, units_in}
 use Rattle.switch_player.specs.Playing.{begun, begun_state}
 use Rattle.switch_player.specs.Feeding.{IsInStep}
 
-after_sound : (d : Definitions) → StaysSound d → (c : UsacConfig) → IsWellFormed c → (s : List ℕ) (us : List UnitValue) → d.sound c s → d.sound c (after d c s us)
+pub after_sound : (d : Definitions) → StaysSound d → (c : UsacConfig) → IsWellFormed c → (s : List ℕ) (us : List UnitValue) → d.sound c s → d.sound c (after d c s us)
 after_sound d stays c fine s [] q = q
 after_sound d stays c fine s (u ∷ us) q = after_sound d stays c fine (d.next c s u) us (stays.step c s u fine q)
 
@@ -32,7 +32,7 @@ module _ (d : Definitions) (stays : StaysSound d) (f : Shown) (fine : IsWellForm
   fresh_sound = after_sound d stays f.config fine (d.init f.config) (units_in f.carried) (stays.start f.config fine)
 
   -- a block at which decoding begins is a whole block
-  begun_long : EmitsBlocks d → length (begun d f) ≡ channels f.config * frame_length f.config
+  pub begun_long : EmitsBlocks d → length (begun d f) ≡ channels f.config * frame_length f.config
   begun_long emits =
       ap (λ (r : Option Running). length (emitted d r f.unit)) (stepped_over-running d f.config (d.init f.config) (units_in f.carried))
       ∙ (emits.block f.config (after d f.config (d.init f.config) (units_in f.carried)) f.unit fine fresh_sound).0

@@ -3,3 +3,10 @@ pub mod Lengths
 pub mod Taken
 pub mod RefusedOnce
 pub mod TurnLemmas
+pub mod Warming
+pub mod PartsShown
+pub mod Converging
+pub mod SplicesTaken
+pub mod OwnSplices
+pub mod EachFrame
+pub mod Starting

@@ -8,12 +8,13 @@ use Rattle.usac_frame.specs.Units.{UnitValue}
 use Rattle.preroll.specs.declared.carried_units.CarriedUnits.{CarriedUnits}
 use Rattle.preroll.specs.Carried.{IsFirst, Carries}
 use Rattle.preroll.proofs.OneRule.{judged_once}
+use Rattle.plans.specs.Level.{IsLevel}
 use Rattle.core_iface.specs.Decoding.{Definitions}
 use Rattle.switch_player.specs.declared.turn.Turn.{Turn}
 use Rattle.switch_player.specs.declared.turn.Turn.TheVariants.{GoesOn, Start, Join}
 use Rattle.switch_player.specs.declared.fault.PlayFault.{PlayFault}
 use Rattle.switch_player.specs.declared.fault.PlayFault.TheVariants.{FrameFault, NotIndependent, RateChanged, ChannelsChanged, Carry, TooFew, CoreFault, Memory, Stopped}
-use Rattle.switch_player.specs.Rules.{IsLevel, IsShortOf, RefusesRead, Refuses, RefusesAt, TakesBy}
+use Rattle.switch_player.specs.Rules.{IsShortOf, RefusesRead, Refuses, RefusesAt, TakesBy}
 use Rattle.switch_player.specs.Turns.{IsTurn, IsTurnAt, Judges, JudgesAt}
 
 not_short : (d : Definitions) (c : UsacConfig) (g : Frame) (k : CarriedUnits) (have need : ℕ) → Carries c g k.fade k.units → d.warm c ≤ length k.units → IsShortOf d c g have need → ⊥

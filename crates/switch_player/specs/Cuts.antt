@@ -1,9 +1,10 @@
 -- What is cut out of the streams of a plan, each stream decoded alone. No word here names a player or a reset.
-use Rattle.std.specs.Prelude.{List, [], ◌∷◌, ◌++◌, Option, Some, None, if◌then◌else◌, ℕ, ℤ, slice_get, slice_range}
+use Rattle.std.specs.Prelude.{List, [], ◌∷◌, ◌++◌, Option, Some, None, if◌then◌else◌, ℕ, ℤ, map, slice_get, slice_range}
 use Rattle.usac_cfg.specs.UsacConfig.{channels}
 use Rattle.core_iface.specs.Decoding.{Definitions}
 use Rattle.preroll.specs.Carrying.{Shown, fades_in}
 use Rattle.plans.specs.Plans.{Piece}
+use Rattle.plans.specs.Parts.{Part, part_shown}
 use Rattle.switch_player.specs.Blending.{blended}
 use Rattle.switch_player.specs.Streams.{alone, left}
 
@@ -32,3 +33,7 @@ cut_behind d before (p ∷ ps) =
 -- the blocks of a plan, each stream decoded alone and cut
 abbrev pub cut : Definitions → List Piece → List (List ℤ)
 cut d ps = cut_behind d None ps
+
+-- and of a plan of parts of streams, by what they show
+abbrev pub cut_plan : Definitions → List Part → List (List ℤ)
+cut_plan d ps = cut d (map part_shown ps)

@@ -7,6 +7,7 @@ pub mod CarriedFound
 pub mod PlayerValue
 pub mod Faults
 pub mod Rules
+pub mod Splices
 pub mod Laws
 pub mod Turns
 pub mod Feeding

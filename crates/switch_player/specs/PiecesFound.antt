@@ -9,8 +9,9 @@ use Rattle.usac_frame.specs.Units.{UnitValue}
 use Rattle.core_iface.specs.Decoding.{Definitions, out, after}
 use Rattle.preroll.specs.Carrying.{Shown, units_in}
 use Rattle.plans.specs.Plans.{Piece, frames_of}
+use Rattle.plans.specs.StreamUnits.{units_of, head_of}
 use Rattle.plans.specs.Laws.{AreOf}
-use Rattle.switch_player.specs.Streams.{units_of, head_of, left}
+use Rattle.switch_player.specs.Streams.{left}
 use Rattle.switch_player.specs.Cuts.{blocks_of}
 use Rattle.switch_player.specs.OutsFound.{out-append, after-append, length-out}
 
@@ -60,14 +61,14 @@ module _ (d : Definitions) (c : UsacConfig) where
       ap (take n) (e ∙ sym (append_assoc (xs ++ ks) vs ys)) ∙ take_at ((xs ++ ks) ++ vs) ys n (length-append (xs ++ ks) vs ∙ sym h)
 
 -- A part that is not empty has a first frame.
-record Shape (fs : List Shown) (from to : ℕ) : Type 0 where
+pub record Shape (fs : List Shown) (from to : ℕ) : Type 0 where
   pub frame : Shown
   pub rest : List Shown
   pub part : slice_range fs from to ≡ frame ∷ rest
   pub first : slice_get fs from ≡ Some frame
   pub long : from + length (frame ∷ rest) ≡ to
 
-shape : (fs : List Shown) (from to : ℕ) → from < to → to ≤ length fs → Shape fs from to
+pub shape : (fs : List Shown) (from to : ℕ) → from < to → to ≤ length fs → Shape fs from to
 shape [] from to h k = absurd (omega arith)
 shape (f ∷ fs) from zero h k = absurd (omega arith)
 shape (f ∷ fs) zero (suc n) h k = record {
@@ -87,7 +88,7 @@ shape (f ∷ fs) (suc k) (suc n) h l =
       long = let e = s.long in omega (arith, e);
     }
 
-units_parts : (f : Shown) (fs : List Shown) (from to : ℕ) → units_of (f ∷ fs) ≡ (units_in f.carried ++ own_units (take from (f ∷ fs))) ++ (own_units (slice_range (f ∷ fs) from to) ++ own_units (drop (to - from) (drop from (f ∷ fs))))
+pub units_parts : (f : Shown) (fs : List Shown) (from to : ℕ) → units_of (f ∷ fs) ≡ (units_in f.carried ++ own_units (take from (f ∷ fs))) ++ (own_units (slice_range (f ∷ fs) from to) ++ own_units (drop (to - from) (drop from (f ∷ fs))))
 units_parts f fs from to =
     ap (λ us. units_in f.carried ++ us)
     (ap own_units (sym (take-append-drop from (f ∷ fs)) ∙ ap (λ gs. take from (f ∷ fs) ++ gs) (sym (take-append-drop (to - from) (drop from (f ∷ fs)))))
@@ -95,7 +96,7 @@ units_parts f fs from to =
     ∙ ap (λ us. own_units (take from (f ∷ fs)) ++ us) (map-append (λ g. g.unit) (slice_range (f ∷ fs) from to) (drop (to - from) (drop from (f ∷ fs))))))
     ∙ sym (append_assoc (units_in f.carried) (own_units (take from (f ∷ fs))) (own_units (slice_range (f ∷ fs) from to) ++ own_units (drop (to - from) (drop from (f ∷ fs)))))
 
-front_long : (f : Shown) (fs : List Shown) (from : ℕ) → from ≤ length (f ∷ fs) → head_of (f ∷ fs) + from ≡ length (units_in f.carried ++ own_units (take from (f ∷ fs)))
+pub front_long : (f : Shown) (fs : List Shown) (from : ℕ) → from ≤ length (f ∷ fs) → head_of (f ∷ fs) + from ≡ length (units_in f.carried ++ own_units (take from (f ∷ fs)))
 front_long f fs from h =
     let e = length-append (units_in f.carried) (own_units (take from (f ∷ fs))) in
     let m = length-map (take from (f ∷ fs)) (λ g. g.unit) in
@@ -104,7 +105,7 @@ front_long f fs from h =
 
 -- A piece is placed where the units before it are some and those that its first frame carries, and the core forgets the some.
 module _ (d : Definitions) (f : Shown) (fs : List Shown) (from to : ℕ) (low : from < to) (high : to ≤ length (f ∷ fs)) (one : AreOf f.config (f ∷ fs)) where
-  place : (s : Shape (f ∷ fs) from to) (before : List UnitValue) → s.frame.config ≡ f.config → units_in f.carried ++ own_units (take from (f ∷ fs)) ≡ before ++ units_in s.frame.carried
+  pub place : (s : Shape (f ∷ fs) from to) (before : List UnitValue) → s.frame.config ≡ f.config → units_in f.carried ++ own_units (take from (f ∷ fs)) ≡ before ++ units_in s.frame.carried
       → out d f.config (after d f.config (after d f.config (d.init f.config) before) (units_in s.frame.carried)) (own_units (s.frame ∷ s.rest)) ≡ out d f.config (after d f.config (d.init f.config) (units_in s.frame.carried)) (own_units (s.frame ∷ s.rest))
       → d.drain f.config (after d f.config (after d f.config (after d f.config (d.init f.config) before) (units_in s.frame.carried)) (own_units (s.frame ∷ s.rest))) ≡ d.drain f.config (after d f.config (after d f.config (d.init f.config) (units_in s.frame.carried)) (own_units (s.frame ∷ s.rest)))
       → Placed d (record { stream = f ∷ fs; from = from; to = to })

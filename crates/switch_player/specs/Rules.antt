@@ -10,15 +10,10 @@ use Rattle.usac_frame.specs.Frame.{FrameFaults}
 use Rattle.usac_frame.specs.AccessUnit.{IsFrame}
 use Rattle.usac_frame.specs.Units.{UnitValue, payload_length}
 use Rattle.preroll.specs.Carried.{IsFirst, Carries}
+use Rattle.plans.specs.Level.{IsLevel}
 use Rattle.core_iface.specs.Decoding.{Definitions}
 use Rattle.switch_player.specs.declared.fault.PlayFault.{PlayFault}
 use Rattle.switch_player.specs.declared.fault.PlayFault.TheVariants.{FrameFault, NotIndependent, RateChanged, ChannelsChanged, Carry, TooFew, CoreFault, Memory, Stopped}
-
--- A frame of another configuration with the same rate and as many channels: rules 3 and 4 are kept.
-pub record IsLevel (b c : UsacConfig) : Type 0 where
-  pub other : b ≢ c
-  pub rate : rate b ≡ rate c
-  pub channels : channels b ≡ channels c
 
 -- The frame carries units, but fewer than the core's warm-up: rule 5 is kept, and rule 6 is broken.
 pub record IsShortOf (d : Definitions) (c : UsacConfig) (g : Frame) (have need : ℕ) : Type 0 where

@@ -1,18 +1,8 @@
 -- A stream decoded alone: from its first frame, with what that one carries.
-use Rattle.std.specs.Prelude.{ℕ, ◌+◌, List, [], ◌∷◌, ◌++◌, length, map, take, drop, ℤ}
-use Rattle.usac_frame.specs.Units.{UnitValue}
+use Rattle.std.specs.Prelude.{ℕ, ◌+◌, List, [], ◌∷◌, take, drop, ℤ}
 use Rattle.core_iface.specs.Decoding.{Definitions, out, after}
-use Rattle.preroll.specs.Carrying.{Shown, units_in}
-
--- the units of a stream: what its first frame carries, and then each frame's own
-abbrev pub units_of : List Shown → List UnitValue
-units_of [] = []
-units_of (f ∷ fs) = units_in f.carried ++ map (λ g. g.unit) (f ∷ fs)
-
--- how many units a stream has before those of its frames
-abbrev pub head_of : List Shown → ℕ
-head_of [] = 0
-head_of (f ∷ fs) = length (units_in f.carried)
+use Rattle.preroll.specs.Carrying.{Shown}
+use Rattle.plans.specs.StreamUnits.{units_of, head_of}
 
 -- a stream decoded alone, a block for each frame
 abbrev pub alone : Definitions → List Shown → List (List ℤ)

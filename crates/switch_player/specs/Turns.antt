@@ -9,6 +9,7 @@ use Rattle.preroll.specs.declared.fault.CarryFault.{CarryFault}
 use Rattle.preroll.specs.declared.fault.CarryFault.TheVariants.{NotImmediate}
 use Rattle.preroll.specs.Carried.{IsFirst, Carries}
 use Rattle.preroll.specs.Carrying.{Carried, Shown, units_in}
+use Rattle.plans.specs.Level.{IsLevel}
 use Rattle.core_iface.specs.declared.fault.CoreFault.{CoreFault as CoreError}
 use Rattle.core_iface.specs.declared.fault.CoreFault.TheVariants as cores
 use Rattle.core_iface.specs.Decoding.{Definitions}
@@ -18,7 +19,7 @@ use Rattle.switch_player.specs.declared.turn.Turn.TheVariants.{GoesOn, Start, Jo
 use Rattle.switch_player.specs.declared.fault.PlayFault.{PlayFault}
 use Rattle.switch_player.specs.declared.fault.PlayFault.TheVariants.{FrameFault, NotIndependent, RateChanged, ChannelsChanged, Carry, TooFew, CoreFault, Memory, Stopped}
 use Rattle.switch_player.specs.Playing.{begun, begun_state, joined_block}
-use Rattle.switch_player.specs.Rules.{IsLevel, IsShortOf, RefusesRead}
+use Rattle.switch_player.specs.Rules.{IsShortOf, RefusesRead}
 
 -- The frame carries these units, and there are as many as the warm-up.
 abbrev pub HasEnough : Definitions → UsacConfig → Frame → CarriedUnits → Type 0
