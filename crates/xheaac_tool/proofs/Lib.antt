@@ -5,3 +5,6 @@ pub mod PlaySteps
 pub mod CheckSteps
 pub mod Runs
 pub mod UnitFrames
+pub mod FineScripts
+pub mod Taking
+pub mod Headlines
