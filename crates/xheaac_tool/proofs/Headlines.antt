@@ -1,38 +1,33 @@
 -- What `run` answers to `play`, from what it takes and from what was promised of the call.
-use Rattle.std.proofs.Common.{◌≡◌, ℕ, List, [], ◌∷◌, ◌++◌, map, Option, Some, None, refl, ap, sym, subst, ◌∙◌, ◌⊎◌, inl, inr, arith}
-use Rattle.std.specs.Prelude.{◌≢◌, IsSome}
+use Rattle.std.proofs.Common.{◌≡◌, ℕ, List, [], ◌∷◌, ◌++◌, map, Option, Some, None, ap, sym, subst, ◌∙◌, ◌⊎◌, inl, inr, arith}
+use Rattle.std.specs.Prelude.{◌≢◌, is_some}
 use Rattle.std.specs.Io.KnownBytes.{append_known}
 use Rattle.std.proofs.lemmas.List.{append_assoc, append-nil}
-use Rattle.causes.specs.Counts.{Rose}
-use Rattle.plans.specs.Parts.{Part}
 use Rattle.plans.specs.OwnPlan.{own_plan}
-use Rattle.plans.specs.SoundPlan.{IsSoundPlan}
 use Rattle.outside.specs.declared.shelf.Shelf
 use Rattle.outside.specs.declared.sink.Sink
 use Rattle.core_iface.specs.declared.cores.Core
 use Rattle.core_iface.specs.Decoding.{Definitions}
 use Rattle.tool_text.specs.declared.refusal.Refusal.{Refusal}
-use Rattle.tool_text.specs.RefusalText.{refusal_text}
 use Rattle.au_stream.specs.Frames.{Frame}
-use Rattle.au_stream.specs.Script.{Mark, End, TooLarge, IsScript, HasFrames}
+use Rattle.au_stream.specs.Script.{End, TooLarge}
 use Rattle.au_stream.proofs.Marks.{one_script, same_frames}
 use Rattle.commands.specs.declared.outcome.Outcome.{Outcome}
 use Rattle.commands.specs.declared.outcome.Outcome.TheVariants as is
 use Rattle.commands.specs.Calling.{Called}
-use Rattle.commands.specs.Causes.{Counts, Caused}
+use Rattle.commands.specs.Causes.{Counts}
 use Rattle.commands.specs.Commands.{Command, TakesAll}
 use Rattle.commands.specs.Doing.{IsNotBegun}
-use Rattle.commands.specs.Ending.{Traces, IsRefused, Passes, Ends, OfFile, refusal_of_mark}
+use Rattle.commands.specs.Ending.{Traces, IsRefused, Passes, Ends, refusal_of_mark}
 use Rattle.commands.specs.OnInput.{on_file}
-use Rattle.commands.specs.Ran.{Notes, Noted, Reports, CausesOf, IsMemory, Settles, Finished, Ran, status_of, text_of}
-use Rattle.commands.specs.Texts.{large_text}
-use Rattle.commands.specs.Worlds.{World, world, traces}
+use Rattle.commands.specs.Ran.{Notes, Noted, Reports, CausesOf, IsMemory, Settles, status_of, text_of}
+use Rattle.commands.specs.Worlds.{world, traces}
 use Rattle.commands.proofs.Rans.{read_outcome, write_outcome, core_outcome}
 use Rattle.xheaac_tool.specs.Playing.{playing, output}
-use Rattle.xheaac_tool.specs.Spliced.{coded, CarriesSplice, CarriesNoSplice, CarriesOwn, plan_bytes, own_bytes, TakesSplices, TakesFilesOfSplices}
-use Rattle.xheaac_tool.specs.Headline.{WroteBytes, AnswersPlan, AnswersFrames, AnswersRefusal, AnswersLarge, AnswersSplices, AreCalm, NoneRose, PlaysSplices}
+use Rattle.xheaac_tool.specs.Spliced.{coded, own_bytes, TakesFilesOfSplices}
+use Rattle.xheaac_tool.specs.Headline.{WroteBytes, AnswersPlan, AnswersRefusal, AnswersLarge, AnswersSplices, AreCalm, NoneRose, PlaysSplices}
 use Rattle.xheaac_tool.specs.Words.{Case, Play}
-use Rattle.xheaac_tool.specs.Answered.{Answered, DoesCase}
+use Rattle.xheaac_tool.specs.Answered.{Answered}
 
 -- a frame behind others that is refused is not taken
 not_taken : (c : Command) (before fs : List Frame) (f : Frame) (later : List Frame) (r : Refusal) → c.Refuses (before ++ fs) f r → TakesAll c before (fs ++ f ∷ later) → ⊥
@@ -91,7 +86,7 @@ module _ (d : Definitions) (takes : TakesFilesOfSplices d) (text : List ℕ) (t 
   at_done zero quiet frames p wrote =
       let own = (takes.file text).own frames p in
       let answers : AnswersPlan d (own_plan (map coded frames)) t n status =
-          record { status_is = zero; wrote = wrote ∙ ap (append_known t.written_before) (takes.output_of frames); quiet = quiet } in
+      record { status_is = zero; wrote = wrote ∙ ap (append_known t.written_before) (takes.output_of frames); quiet = quiet } in
       record {
         splice = λ plan sound is.
             let x = (takes.file text).splice plan sound is in
@@ -170,15 +165,15 @@ module _ (d : Definitions) (takes : TakesFilesOfSplices d) (text : List ℕ) (t 
 none_rose : (before after : Counts) (status : ℕ) → NoneRose before after → CausesOf before after status → IsNoFault status
 none_rose before after status none causes = (
   (λ e. none.shelf (causes.read e).0),
-  (λ e. elim causes.write e [ inl x ↦ none.out x.1 | inr x ↦ none.out x.0 ]),
+  (λ e. elim (causes.write e) [ inl x ↦ none.out x.1 | inr x ↦ none.out x.0 ]),
   (λ e. none.core (causes.core e).2),
 )
 
 -- where neither the command nor the flush fails
 settles_well : (out_before out_after : ℕ) (o ended fault : Outcome) → Settles out_before out_after o ended → o ≢ fault → fault ≢ is.WriteFault → (IsMemory fault → ⊥) → ended ≢ fault
-settles_well a b o ended fault (inl (same, e)) no write memory is = no (sym e ∙ is)
-settles_well a b o ended fault (inr (inl (not, rose, e))) no write memory is = write (sym is ∙ e)
-settles_well a b o ended fault (inr (inr (same, m))) no write memory is = memory (subst IsMemory is m)
+settles_well a b o ended fault (inl (same, e)) other write memory is = other (sym e ∙ is)
+settles_well a b o ended fault (inr (inl (not, rose, e))) other write memory is = write (sym is ∙ e)
+settles_well a b o ended fault (inr (inr (same, m))) other write memory is = memory (subst IsMemory is m)
 
 read_no_write : is.ReadFault ≢ is.WriteFault
 read_no_write e = cc
@@ -189,7 +184,7 @@ core_no_write e = cc
 module _ {H K C : Type 0} (h : Shelf.Ghosts H) (k : Sink.Ghosts K) (c : Core.Ghosts C) (d : Definitions) (takes : TakesFilesOfSplices d) (s0 s1 : H) (o0 o1 : K) (c0 c1 : C) (n : Notes) (status : ℕ) (file text : List ℕ) where
   calm_status : (behind : K) (o ended : Outcome) → Called (on_file (playing d [])) (file ∷ []) (world h k c s0 o0 c0) (world h k c s1 behind c1) o → Settles (k.faults behind) (k.faults o1) o ended → (k.calm behind → ended ≡ is.WriteFault → o ≡ is.WriteFault) → Reports n (text_of ended) (status_of ended) status → h.bytes s0 file ≡ Some text → AreCalm d text (world h k c s0 o0 c0) → IsNoFault status
   calm_status behind o ended called settles flushed reports held calm = (
-    (λ e. settles_well _ _ o ended is.ReadFault settles (called.calm_reads calm.shelf (subst IsSome (sym held) tt, tt)) read_no_write (λ m. m) (read_outcome n ended status reports e)),
+    (λ e. settles_well _ _ o ended is.ReadFault settles (called.calm_reads calm.shelf (ap is_some held, tt)) read_no_write (λ m. m) (read_outcome n ended status reports e)),
     (λ e. called.calm_writes calm.out (flushed (called.keeps.calm_out calm.out) (write_outcome n ended status reports e))),
     (λ e. settles_well _ _ o ended is.CoreFault settles (called.calm_decodes (text ∷ []) (held, tt) calm.served calm.core) core_no_write (λ m. m) (core_outcome n ended status reports e)),
   )

@@ -1,6 +1,5 @@
 -- Which files `play` takes to their end: the splices of sound plans.
-use Rattle.std.proofs.Common.{◌≡◌, ℕ, List, [], ◌∷◌, ◌++◌, length, map, Option, Some, None, ℤ, refl, ap, sym, subst, ◌∙◌}
-use Rattle.std.proofs.lemmas.List.{append_assoc, append-nil}
+use Rattle.std.proofs.Common.{◌≡◌, ℕ, List, [], ◌∷◌, ◌++◌, map, Option, Some, None, ℤ, refl, ap, sym, subst, ◌∙◌}
 use Rattle.usac_cfg.specs.declared.usac_config.UsacConfig.{UsacConfig}
 use Rattle.usac_frame.specs.declared.frame.Frame.{Frame as UsacFrame}
 use Rattle.preroll.specs.declared.fault.CarryFault.{CarryFault}
@@ -10,23 +9,21 @@ use Rattle.preroll.specs.Carrying.{Shown}
 use Rattle.plans.specs.Plans.{Piece}
 use Rattle.plans.specs.Segments.{own}
 use Rattle.plans.specs.Coded.{Coded, coded_shown}
-use Rattle.plans.specs.Parts.{Part, spliced, part_shown}
+use Rattle.plans.specs.Parts.{Part, spliced}
 use Rattle.plans.specs.OwnPlan.{own_plan}
 use Rattle.plans.specs.SoundPlan.{IsSoundPlan}
 use Rattle.core_iface.specs.Decoding.{Definitions, samples_of}
 use Rattle.core_iface.specs.Samples.{sample_bytes}
-use Rattle.switch_player.specs.declared.fault.PlayFault.{PlayFault}
 use Rattle.switch_player.specs.declared.fault.PlayFault.TheVariants as plays
 use Rattle.switch_player.specs.Cuts.{cut}
 use Rattle.switch_player.specs.Laws.{SplicesConverge, RefusesNoSplice, TakesSplicesAlone}
 use Rattle.switch_player.specs.Rules.{Refuses, RefusesRead, TakesBy}
-use Rattle.switch_player.specs.Splices.{TakesFrames, IsOwnSplice}
+use Rattle.switch_player.specs.Splices.{TakesFrames}
 use Rattle.au_stream.specs.Frames.{Frame, config_of}
 use Rattle.au_stream.specs.Script.{End}
 use Rattle.commands.specs.Commands.{Takes, TakesAll}
-use Rattle.commands.specs.Ending.{Passes}
 use Rattle.xheaac_tool.specs.Playing.{playing, play_shown, last_config, output}
-use Rattle.xheaac_tool.specs.Spliced.{coded, CarriesSplice, plan_bytes, own_bytes, TakesSplices, TakesFilesOfSplices}
+use Rattle.xheaac_tool.specs.Spliced.{coded, plan_bytes, own_bytes, TakesSplices, TakesFilesOfSplices}
 use Rattle.xheaac_tool.proofs.Growing.{last_config-push}
 use Rattle.xheaac_tool.proofs.FineScripts.{script_fine}
 use Rattle.switch_player.proofs.PartsShown.{own_shown}
