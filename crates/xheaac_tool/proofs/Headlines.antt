@@ -86,12 +86,12 @@ module _ (d : Definitions) (takes : TakesFilesOfSplices d) (text : List ℕ) (t 
   at_done zero quiet frames p wrote =
       let own = (takes.file text).own frames p in
       let answers : AnswersPlan d (own_plan (map coded frames)) t n status =
-      record { status_is = zero; wrote = wrote ∙ ap (append_known t.written_before) (takes.output_of frames); quiet = quiet } in
+      record { status_is = zero; wrote = wrote ∙ ap (append_known t.written_before) (takes.output_of frames); each = takes.each (own_plan (map coded frames)) own.sound; quiet = quiet } in
       record {
         splice = λ plan sound is.
             let x = (takes.file text).splice plan sound is in
             let same = (one_script text frames x.0 End End p.script x.1.script).0 in
-            inl (record { status_is = zero; wrote = wrote ∙ ap (append_known t.written_before) (ap (output d) same ∙ x.2); quiet = quiet });
+            inl (record { status_is = zero; wrote = wrote ∙ ap (append_known t.written_before) (ap (output d) same ∙ x.2); each = takes.each plan sound; quiet = quiet });
         other = λ none. absurd (none (own_plan (map coded frames)) own.sound (frames, p.script, sym own.splice));
         own = λ z. (frames, p.script, own);
         verdict = inl (record { frames = frames; passes = p; answers = answers });

@@ -16,7 +16,7 @@ use Rattle.core_iface.specs.Decoding.{Definitions, samples_of}
 use Rattle.core_iface.specs.Samples.{sample_bytes}
 use Rattle.switch_player.specs.declared.fault.PlayFault.TheVariants as plays
 use Rattle.switch_player.specs.Cuts.{cut}
-use Rattle.switch_player.specs.Laws.{SplicesConverge, RefusesNoSplice, TakesSplicesAlone}
+use Rattle.switch_player.specs.Laws.{SplicesConverge, RefusesNoSplice, TakesSplicesAlone, CutsEachFrame}
 use Rattle.switch_player.specs.Rules.{Refuses, RefusesRead, TakesBy}
 use Rattle.switch_player.specs.Splices.{TakesFrames}
 use Rattle.au_stream.specs.Frames.{Frame, config_of}
@@ -83,7 +83,7 @@ output_is d fs =
 
 -- ---- the law
 
-module _ (d : Definitions) (converge : SplicesConverge d) (takes : RefusesNoSplice d) (alone : TakesSplicesAlone d) where
+module _ (d : Definitions) (converge : SplicesConverge d) (takes : RefusesNoSplice d) (alone : TakesSplicesAlone d) (each : CutsEachFrame d) where
   splice_bytes : (plan : List Part) → IsSoundPlan d.warm plan → (frames : List Frame) → map coded frames ≡ spliced plan → output d frames ≡ plan_bytes d plan
   splice_bytes plan sound frames e =
       output_is d frames
@@ -99,4 +99,4 @@ module _ (d : Definitions) (converge : SplicesConverge d) (takes : RefusesNoSpli
   }
 
   pub takes_files_of_splices : TakesFilesOfSplices d
-  takes_files_of_splices = record { file = takes_splices; output_of = output_is d }
+  takes_files_of_splices = record { file = takes_splices; output_of = output_is d; each = each }

@@ -3,11 +3,14 @@
 use Rattle.std.specs.Prelude.{◌≡◌, ℕ, List, [], map, ◌⊎◌, Some, None}
 use Rattle.std.specs.declared.option.Option.{Option}
 use Rattle.std.specs.Io.KnownBytes.{append_known}
+use Rattle.std.specs.List.{AllZip}
 use Rattle.causes.specs.Counts.{Rose}
-use Rattle.plans.specs.Parts.{Part}
+use Rattle.plans.specs.Parts.{Part, spliced}
 use Rattle.plans.specs.OwnPlan.{own_plan}
 use Rattle.plans.specs.SoundPlan.{IsSoundPlan}
 use Rattle.core_iface.specs.Decoding.{Definitions}
+use Rattle.switch_player.specs.Cuts.{cut_plan}
+use Rattle.switch_player.specs.Splices.{IsBlockOf}
 use Rattle.tool_text.specs.declared.refusal.Refusal.{Refusal}
 use Rattle.tool_text.specs.RefusalText.{refusal_text}
 use Rattle.au_stream.specs.Frames.{Frame}
@@ -25,10 +28,12 @@ use Rattle.xheaac_tool.specs.Words.{Case, Play}
 abbrev pub WroteBytes : Traces → List ℕ → Type 0
 WroteBytes t bytes = t.written_after ≡ append_known t.written_before bytes
 
--- Status 0: the bytes of the plan were written, and nothing was noted.
+-- Status 0: the bytes of the plan were written, and nothing was noted. The plan's cut has one block for each frame of the timeline,
+-- in order, with the samples of that frame and no others.
 pub record AnswersPlan (d : Definitions) (plan : List Part) (t : Traces) (n : Notes) (status : ℕ) : Type 0 where
   pub status_is : status ≡ 0
   pub wrote : WroteBytes t (plan_bytes d plan)
+  pub each : AllZip IsBlockOf (spliced plan) (cut_plan d plan)
   pub quiet : n.after ≡ n.before
 
 -- Status 0, of a file all of whose frames are taken.

@@ -8,6 +8,7 @@ use Rattle.core_iface.specs.Decoding.{Definitions, samples_of}
 use Rattle.core_iface.specs.Samples.{sample_bytes}
 use Rattle.switch_player.specs.Cuts.{cut_plan}
 use Rattle.switch_player.specs.Splices.{IsOwnSplice}
+use Rattle.switch_player.specs.Laws.{CutsEachFrame}
 use Rattle.au_stream.specs.Frames.{Frame, config_of}
 use Rattle.au_stream.specs.Script.{End, IsScript}
 use Rattle.commands.specs.Ending.{Passes}
@@ -43,7 +44,9 @@ pub record TakesSplices (d : Definitions) (text : List ℕ) : Type 0 where
   pub splice : (plan : List Part) → IsSoundPlan d.warm plan → CarriesSplice text plan → (frames : List Frame) × Passes (playing d []) text frames End × (output d frames ≡ plan_bytes d plan)
   pub own : (frames : List Frame) → Passes (playing d []) text frames End → IsOwnSplice d (map coded frames)
 
--- So it is with every file; and the output for frames is always that of their own plan.
+-- So it is with every file. The output for frames is always that of their own plan; and the cut of a sound plan has one block for
+-- each frame that the plan splices.
 pub record TakesFilesOfSplices (d : Definitions) : Type 0 where
   pub file : (text : List ℕ) → TakesSplices d text
   pub output_of : (frames : List Frame) → output d frames ≡ own_bytes d frames
+  pub each : CutsEachFrame d

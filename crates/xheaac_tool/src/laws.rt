@@ -14,4 +14,5 @@ pub fn play_takes_splices_alone<C: Core>()
     laws::sound_splices_converge::<C>();
     laws::refuses_no_splice::<C>();
     laws::takes_splices_alone::<C>();
+    laws::cuts_each_frame::<C>();
 }

@@ -1,5 +1,5 @@
 // The top call.
-ghost use Rattle.std.specs.Prelude.{◌≡◌, ◌≤◌, ◌^◌, Some, MatchResult};
+ghost use Rattle.std.specs.Prelude.{◌≡◌, ◌≤◌, ◌^◌, Some, IfOk, MatchResult};
 ghost use Rattle.commands.specs.Calling.{Called};
 ghost use Rattle.commands.specs.Ran.{notes};
 ghost use Rattle.commands.specs.Worlds.{world};
@@ -114,10 +114,12 @@ pub fn run_line<H: Shelf, K: Sink, N: Sink, C: Core>(
 ) -> u8
     requires begun { H.begun shelf.old ≤ 2 ^ 31 }
     requires fed { (C.meaning core.old).fed ≤ 2 ^ 63 }
-    ensures { MatchResult words
+    ensures answers { MatchResult words
         (λ line. Answered C.does K.Sink (case_of (texts line.items)) (world H.Shelf K.Sink C.Core shelf.old out.old core.old)
         (λ sink. world H.Shelf K.Sink C.Core shelf.new sink core.new) out.new (notes N.Sink note.old note.new) result)
         (λ fault. AnsweredNone fault (world H.Shelf K.Sink C.Core shelf.old out.old core.old)
+        (world H.Shelf K.Sink C.Core shelf.new out.new core.new) (notes N.Sink note.old note.new) result) }
+    ensures splices { IfOk words (λ line. PlaysSplices C.does (case_of (texts line.items)) (world H.Shelf K.Sink C.Core shelf.old out.old core.old)
         (world H.Shelf K.Sink C.Core shelf.new out.new core.new) (notes N.Sink note.old note.new) result) }
 {
     match words {
