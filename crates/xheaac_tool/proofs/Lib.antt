@@ -3,3 +3,6 @@ pub mod Growing
 pub mod PlayerSteps
 pub mod PlaySteps
 pub mod CheckSteps
+pub mod FineScripts
+pub mod Taking
+pub mod Headlines

@@ -9,3 +9,5 @@ pub mod Words
 pub mod Asked
 pub mod Cases
 pub mod Answered
+pub mod Spliced
+pub mod Headline

@@ -10,6 +10,7 @@
 
 mod check;
 mod check_task;
+pub mod laws;
 mod play;
 mod play_end;
 mod play_task;

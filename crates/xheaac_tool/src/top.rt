@@ -1,5 +1,5 @@
 // The top call.
-ghost use Rattle.std.specs.Prelude.{◌≡◌, ◌≤◌, ◌^◌, Some, MatchResult};
+ghost use Rattle.std.specs.Prelude.{◌≡◌, ◌≤◌, ◌^◌, Some, IfOk, MatchResult};
 ghost use Rattle.commands.specs.Calling.{Called};
 ghost use Rattle.commands.specs.Ran.{notes};
 ghost use Rattle.commands.specs.Worlds.{world};
@@ -7,8 +7,10 @@ ghost use Rattle.xheaac_tool.specs.Words.{texts, case_of, files_in};
 ghost use Rattle.xheaac_tool.specs.Asked.{asked as case};
 ghost use Rattle.xheaac_tool.specs.Cases.{effect_of};
 ghost use Rattle.xheaac_tool.specs.Answered.{Answered, AnsweredNone};
+ghost use Rattle.xheaac_tool.specs.Headline.{PlaysSplices};
 
 use crate::check::do_check;
+use crate::laws::play_takes_splices_alone;
 use crate::play::do_play;
 use crate::show::do_show;
 use crate::words::{Asked, WordsFault, read_words};
@@ -42,6 +44,27 @@ fn do_asked<H: Shelf, K: Sink, C: Core>(
     }
 }
 
+/// Calls the command of the words, and tells on note and by the status how it ended; or answers with the usage.
+fn answer<H: Shelf, K: Sink, N: Sink, C: Core>(
+    alloc: Global,
+    words: &[String],
+    shelf: &mut H,
+    out: &mut K,
+    note: &mut N,
+    core: &mut C,
+) -> u8
+    requires begun { H.begun shelf.old ≤ 2 ^ 31 }
+    requires fed { (C.meaning core.old).fed ≤ 2 ^ 63 }
+    ensures { Answered C.does K.Sink (case_of (texts words.now)) (world H.Shelf K.Sink C.Core shelf.old out.old core.old)
+        (λ sink. world H.Shelf K.Sink C.Core shelf.new sink core.new) out.new (notes N.Sink note.old note.new) result }
+{
+    let Some(asked) = read_words(words) else {
+        return report(note, USAGE, 2);
+    };
+    let outcome = do_asked(alloc, asked, words, shelf, out, core);
+    finish(out, note, outcome)
+}
+
 /// Runs the command that the words ask for, notes why it stopped, and answers the status.
 ///
 /// | status | it means | note |
@@ -66,14 +89,17 @@ pub fn run<H: Shelf, K: Sink, N: Sink, C: Core>(
 ) -> u8
     requires begun { H.begun shelf.old ≤ 2 ^ 31 }
     requires fed { (C.meaning core.old).fed ≤ 2 ^ 63 }
-    ensures { Answered C.does K.Sink (case_of (texts words.now)) (world H.Shelf K.Sink C.Core shelf.old out.old core.old)
+    ensures answers { Answered C.does K.Sink (case_of (texts words.now)) (world H.Shelf K.Sink C.Core shelf.old out.old core.old)
         (λ sink. world H.Shelf K.Sink C.Core shelf.new sink core.new) out.new (notes N.Sink note.old note.new) result }
+
+    // The headline. Where FILE carries the splice of whole streams at sound joins, `play FILE` writes each frame of the timeline
+    // once, in order, with the samples of its own stream decoded alone, and with the fades of fading joins; any other file is
+    // refused at its first faulty frame, behind the samples of the frames before it.
+    ensures splices { PlaysSplices C.does (case_of (texts words.now)) (world H.Shelf K.Sink C.Core shelf.old out.old core.old)
+        (world H.Shelf K.Sink C.Core shelf.new out.new core.new) (notes N.Sink note.old note.new) result }
 {
-    let Some(asked) = read_words(words) else {
-        return report(note, USAGE, 2);
-    };
-    let outcome = do_asked(alloc, asked, words, shelf, out, core);
-    finish(out, note, outcome)
+    play_takes_splices_alone::<C>();
+    answer(alloc, words, shelf, out, note, core)
 }
 
 /// Runs the program on a command line: as [`run`] where its words are there. Words that are no text are no command; where memory
@@ -88,10 +114,12 @@ pub fn run_line<H: Shelf, K: Sink, N: Sink, C: Core>(
 ) -> u8
     requires begun { H.begun shelf.old ≤ 2 ^ 31 }
     requires fed { (C.meaning core.old).fed ≤ 2 ^ 63 }
-    ensures { MatchResult words
+    ensures answers { MatchResult words
         (λ line. Answered C.does K.Sink (case_of (texts line.items)) (world H.Shelf K.Sink C.Core shelf.old out.old core.old)
         (λ sink. world H.Shelf K.Sink C.Core shelf.new sink core.new) out.new (notes N.Sink note.old note.new) result)
         (λ fault. AnsweredNone fault (world H.Shelf K.Sink C.Core shelf.old out.old core.old)
+        (world H.Shelf K.Sink C.Core shelf.new out.new core.new) (notes N.Sink note.old note.new) result) }
+    ensures splices { IfOk words (λ line. PlaysSplices C.does (case_of (texts line.items)) (world H.Shelf K.Sink C.Core shelf.old out.old core.old)
         (world H.Shelf K.Sink C.Core shelf.new out.new core.new) (notes N.Sink note.old note.new) result) }
 {
     match words {
