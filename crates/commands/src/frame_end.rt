@@ -5,7 +5,7 @@ use core_iface::CoreFault;
 use outside::DeviceFault;
 use std::alloc::AllocError;
 use thiserror::Error;
-use tool_text::Refusal;
+use tool_text::{Place, Reason, Refusal};
 
 /// Why a frame was not handled.
 #[derive(Debug, Drop, Error)]
@@ -54,4 +54,17 @@ impl From<AllocError> for FrameEnd {
     fn from(error: AllocError) -> FrameEnd {
         FrameEnd::Memory(error)
     }
+}
+
+/// How a command ends at the frame with that number, which lacks bits from that bit on.
+pub fn too_short(number: u64, at: u64) -> FrameEnd
+    ensures { result ≡ FrameEnd.Refused (record { place = Place.FrameBit number at; reason = Reason.FrameTooShort }) }
+{
+    FrameEnd::Refused(Refusal {
+        place: Place::FrameBit {
+            frame: number,
+            bit: at,
+        },
+        reason: Reason::FrameTooShort,
+    })
 }

@@ -30,7 +30,7 @@ mod tests;
 mod whole;
 
 pub use alone::{Alone, run_none};
-pub use frame_end::FrameEnd;
+pub use frame_end::{FrameEnd, too_short};
 pub use frames::Frames;
 pub use give::give_all;
 pub use input::{Input, run_file};

@@ -3,7 +3,7 @@ use Rattle.std.specs.Prelude.{[]}
 use Rattle.core_iface.specs.Decoding.{Definitions}
 use Rattle.commands.specs.Calling.{Effect}
 use Rattle.commands.specs.OnInput.{on_file}
-use Rattle.xheaac_tool.specs.Playing.{playing}
+use Rattle.playing.specs.Playing.{playing}
 use Rattle.xheaac_tool.specs.Showing.{showing}
 use Rattle.xheaac_tool.specs.Checking.{checking}
 use Rattle.xheaac_tool.specs.Words.{Case, Show, Check, Play}

@@ -1,6 +1,3 @@
-pub mod PlayFaults
-pub mod Playing
-pub mod Standing
 pub mod Showing
 pub mod Checking
 pub mod Counting
@@ -9,5 +6,4 @@ pub mod Words
 pub mod Asked
 pub mod Cases
 pub mod Answered
-pub mod Spliced
 pub mod Headline

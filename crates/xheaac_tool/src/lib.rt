@@ -4,16 +4,13 @@
 //! or the core fails, what was written before. [`do_show`], [`do_check`] and [`do_play`] are the
 //! commands without their note, for a program that has its own.
 //!
-//! What they share is the crate `commands`: its runners go over the frames of a file for any task, and
-//! `show_task`, `check_task` and `play_task` are the tasks.
+//! What they share is the crate `commands`: its runners go over the frames of a file for any task. The
+//! tasks are `show_task` and `check_task`, and in the crate `playing` that of `play`.
 #![tactic(auto)]
 
 mod check;
 mod check_task;
-pub mod laws;
 mod play;
-mod play_end;
-mod play_task;
 mod show;
 mod show_task;
 mod top;

@@ -4,13 +4,13 @@ ghost use Rattle.xheaac_tool.specs.Words.{texts, IsPlay};
 ghost use Rattle.commands.specs.Worlds.{world};
 ghost use Rattle.commands.specs.Calling.{Called};
 ghost use Rattle.commands.specs.OnInput.{on_file};
-ghost use Rattle.xheaac_tool.specs.Playing.{playing};
+ghost use Rattle.playing.specs.Playing.{playing};
 
-use crate::play_task::Play;
 use crate::words::{Asked, read_words};
 use commands::{Frames, Outcome, run_file};
 use core_iface::Core;
 use outside::{Shelf, Sink};
+use playing::Play;
 use std::alloc::Global;
 
 /// The command `play FILE`: plays each frame of a file and writes its samples, two bytes each, the least significant first,

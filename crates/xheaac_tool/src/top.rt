@@ -10,13 +10,13 @@ ghost use Rattle.xheaac_tool.specs.Answered.{Answered, AnsweredNone};
 ghost use Rattle.xheaac_tool.specs.Headline.{PlaysSplices};
 
 use crate::check::do_check;
-use crate::laws::play_takes_splices_alone;
 use crate::play::do_play;
 use crate::show::do_show;
 use crate::words::{Asked, WordsFault, read_words};
 use commands::{OUT_OF_MEMORY, Outcome, finish, report};
 use core_iface::Core;
 use outside::{Shelf, Sink};
+use playing::laws::play_takes_splices_alone;
 use std::alloc::Global;
 
 const USAGE: &str =

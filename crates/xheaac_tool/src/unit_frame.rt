@@ -1,26 +1,12 @@
 // The frame of an access unit.
-ghost use Rattle.std.specs.Prelude.{◌≡◌, ◌≤◌, length, IfErr};
+ghost use Rattle.std.specs.Prelude.{◌≤◌, length, IfErr};
 ghost use Rattle.xheaac_tool.specs.Reading.{ReadsUnit, ReadsUnitHead, IsJudgement};
 
 use au_stream::EventView;
-use commands::FrameEnd;
+use commands::{FrameEnd, too_short};
 use std::alloc::Global;
-use tool_text::{Place, Reason, Refusal};
 use usac_cfg::UsacConfig;
 use usac_frame::{Frame, FrameFault, FrameHead, read_frame, read_head_at};
-
-/// How a command ends at the frame with that number, which lacks bits from that bit on.
-pub fn too_short(number: u64, at: u64) -> FrameEnd
-    ensures { result ≡ FrameEnd.Refused (record { place = Place.FrameBit number at; reason = Reason.FrameTooShort }) }
-{
-    FrameEnd::Refused(Refusal {
-        place: Place::FrameBit {
-            frame: number,
-            bit: at,
-        },
-        reason: Reason::FrameTooShort,
-    })
-}
 
 /// Reads the frame that an access unit is. One that is none is refused at the first bit of its leftmost field that lacks bits.
 pub fn read_unit_frame(

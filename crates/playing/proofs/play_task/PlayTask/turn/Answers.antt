@@ -1,7 +1,7 @@
 use Rattle.std.proofs.Common.{subst, sym, ◌++◌}
 use Rattle.std.proofs.lemmas.List.{append-nil}
-use Rattle.xheaac_tool.specs.Standing.{PlayerStands}
-use Rattle.xheaac_tool.proofs.play_task.PlayTask.turn.Goals as goal
+use Rattle.playing.specs.Standing.{PlayerStands}
+use Rattle.playing.proofs.play_task.PlayTask.turn.Goals as goal
 
 pub returns : goal.returns
 returns g c = λ at frames ready st. subst (λ x. PlayerStands g.C.Core.does x c.args.self.now.player ready) (sym (append-nil (at ++ frames))) st

@@ -22,10 +22,10 @@ use Rattle.switch_player.specs.Splices.{TakesFrames}
 use Rattle.au_stream.specs.Frames.{Frame, config_of}
 use Rattle.au_stream.specs.Script.{End}
 use Rattle.commands.specs.Commands.{Takes, TakesAll}
-use Rattle.xheaac_tool.specs.Playing.{playing, play_shown, last_config, output}
-use Rattle.xheaac_tool.specs.Spliced.{coded, plan_bytes, own_bytes, TakesSplices, TakesFilesOfSplices}
-use Rattle.xheaac_tool.proofs.Growing.{last_config-push}
-use Rattle.xheaac_tool.proofs.FineScripts.{script_fine}
+use Rattle.playing.specs.Playing.{playing, play_shown, last_config, output}
+use Rattle.playing.specs.Spliced.{coded, plan_bytes, own_bytes, TakesSplices, TakesFilesOfSplices}
+use Rattle.playing.proofs.Growing.{last_config-push}
+use Rattle.playing.proofs.FineScripts.{script_fine}
 use Rattle.switch_player.proofs.PartsShown.{own_shown}
 
 -- ---- what the command takes, and what a player takes

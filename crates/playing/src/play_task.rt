@@ -36,8 +36,8 @@ impl Play {
 impl Task for Play {
     ghost use Rattle.std.specs.Prelude.{true, List, [], ◌++◌};
     ghost use Rattle.au_stream.specs.Frames.{Frame};
-    ghost use Rattle.xheaac_tool.specs.Playing.{playing};
-    ghost use Rattle.xheaac_tool.specs.Standing.{PlayerStands};
+    ghost use Rattle.playing.specs.Playing.{playing};
+    ghost use Rattle.playing.specs.Standing.{PlayerStands};
 
     ghost At = { List Frame };
 

@@ -13,7 +13,7 @@ use Rattle.plans.specs.Coded.{Coded}
 use Rattle.au_stream.specs.Elements.{Carries}
 use Rattle.au_stream.specs.Frames.{Frame, frames_under, frames_from}
 use Rattle.au_stream.specs.Script.{Mark, IsScript}
-use Rattle.xheaac_tool.specs.Spliced.{coded}
+use Rattle.playing.specs.Spliced.{coded}
 
 abbrev IsFine : Coded → Type 0
 IsFine f = IsWellFormed f.config

@@ -3,9 +3,9 @@ use Rattle.std.proofs.lemmas.Result.{err_from_is_err_and}
 use Rattle.core_iface.specs.Samples.{sample_bytes}
 use Rattle.au_stream.specs.Frames.{config_of}
 use Rattle.commands.specs.declared.frame_end.FrameEnd.TheVariants as ends
-use Rattle.xheaac_tool.proofs.PlayerSteps.{end_there, fed_frame, fed_stopped, fed_unwritten, fed_did, ended, ended_caused, ended_calm}
-use Rattle.xheaac_tool.proofs.PlaySteps.{play_follows, play_stands}
-use Rattle.xheaac_tool.proofs.play_task.PlayTask.handle.Goals as goal
+use Rattle.playing.proofs.PlayerSteps.{end_there, fed_frame, fed_stopped, fed_unwritten, fed_did, ended, ended_caused, ended_calm}
+use Rattle.playing.proofs.PlaySteps.{play_follows, play_stands}
+use Rattle.playing.proofs.play_task.PlayTask.handle.Goals as goal
 
 pub returns-in-Err-clause-handles : goal.returns-in-Err-clause-handles
 returns-in-Err-clause-handles g c = λ at before f event mux st.

@@ -1,10 +1,9 @@
 // How a command ends at a frame that its player does not play.
 ghost use Rattle.std.specs.Prelude.{◌≡◌};
 ghost use Rattle.tool_text.specs.Faults.{at_frame as refusal_at};
-ghost use Rattle.xheaac_tool.specs.PlayFaults.{IsEndOf};
+ghost use Rattle.playing.specs.PlayFaults.{IsEndOf};
 
-use crate::unit_frame::too_short;
-use commands::FrameEnd;
+use commands::{FrameEnd, too_short};
 use std::alloc::AllocError;
 use switch_player::PlayFault;
 use tool_text::{Reason, at_frame, carry_refusal};

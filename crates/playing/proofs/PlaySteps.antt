@@ -12,10 +12,10 @@ use Rattle.switch_player.specs.Rules.{Refuses, TakesBy}
 use Rattle.switch_player.specs.Feeding.{IsInStep, IsPlayed}
 use Rattle.au_stream.specs.Frames.{Frame, config_of}
 use Rattle.commands.specs.Commands.{Takes}
-use Rattle.xheaac_tool.specs.Playing.{playing, play_shown, last_config}
-use Rattle.xheaac_tool.specs.Standing.{PlayerStands, state_behind}
-use Rattle.xheaac_tool.proofs.Growing.{last_config-push, state_push, play_grows}
-use Rattle.xheaac_tool.proofs.PlayerSteps.{Follows, shown_here}
+use Rattle.playing.specs.Playing.{playing, play_shown, last_config}
+use Rattle.playing.specs.Standing.{PlayerStands, state_behind}
+use Rattle.playing.proofs.Growing.{last_config-push, state_push, play_grows}
+use Rattle.playing.proofs.PlayerSteps.{Follows, shown_here}
 
 -- the player's rules at a frame are those of its configuration and access unit, behind the last configuration
 rules_here : (d : Definitions) (f : Frame) (last now : Option UsacConfig) (config : UsacConfig) (au : List ℕ) (e : PlayFault) → last ≡ now → config ≡ config_of f → au ≡ f.au → Refuses d last config au e → Refuses d now (config_of f) f.au e

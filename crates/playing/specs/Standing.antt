@@ -6,7 +6,7 @@ use Rattle.switch_player.specs.PlayerValue.{PlayerValue}
 use Rattle.switch_player.specs.Playing.{state_over, standing}
 use Rattle.switch_player.specs.Feeding.{IsInStep}
 use Rattle.au_stream.specs.Frames.{Frame}
-use Rattle.xheaac_tool.specs.Playing.{play_shown, last_config}
+use Rattle.playing.specs.Playing.{play_shown, last_config}
 
 -- where the core stands behind all frames from the first on
 abbrev pub state_behind : Definitions → List Frame → Option Running

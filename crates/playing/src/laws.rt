@@ -1,7 +1,7 @@
 //! What `play` takes.
 //!
 //! The function runs no code; its contract is the theorem.
-ghost use Rattle.xheaac_tool.specs.Spliced.{TakesFilesOfSplices};
+ghost use Rattle.playing.specs.Spliced.{TakesFilesOfSplices};
 
 use core_iface::Core;
 use switch_player::laws;

@@ -26,8 +26,8 @@ use Rattle.commands.specs.Commands.{Command, Takes, Grows}
 use Rattle.commands.specs.Handing.{WrotePart}
 use Rattle.commands.specs.OneFrame.{CausedBy, Handles, DidFrame, DidPart, DidSome, from_device}
 use Rattle.commands.proofs.Going.{append-none}
-use Rattle.xheaac_tool.specs.Playing.{play_shown}
-use Rattle.xheaac_tool.specs.PlayFaults.{refusal_of_play, IsEndOf}
+use Rattle.playing.specs.Playing.{play_shown}
+use Rattle.playing.specs.PlayFaults.{refusal_of_play, IsEndOf}
 
 -- A command calls its player with the frame's configuration and access unit, where the player refuses by these rules. It takes what
 -- the player takes, and refuses by the player's rules; it writes nothing before that; and its units and its bytes are the player's.

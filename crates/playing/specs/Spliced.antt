@@ -12,7 +12,7 @@ use Rattle.switch_player.specs.Laws.{CutsEachFrame}
 use Rattle.au_stream.specs.Frames.{Frame, config_of}
 use Rattle.au_stream.specs.Script.{End, IsScript}
 use Rattle.commands.specs.Ending.{Passes}
-use Rattle.xheaac_tool.specs.Playing.{playing, output}
+use Rattle.playing.specs.Playing.{playing, output}
 
 -- a frame of a file, as one of a stream: its mux is left open
 abbrev pub coded : Frame → Coded

@@ -13,7 +13,7 @@ use Rattle.switch_player.specs.Rules as player
 use Rattle.tool_text.specs.declared.refusal.Refusal.{Refusal}
 use Rattle.au_stream.specs.Frames.{Frame, config_of, last_of}
 use Rattle.commands.specs.Commands.{Command, opens_silently, RefusesNoEnd, ClosesSilently}
-use Rattle.xheaac_tool.specs.PlayFaults.{refusal_of_play}
+use Rattle.playing.specs.PlayFaults.{refusal_of_play}
 
 -- what a frame shows to a player
 abbrev pub play_shown : Frame → Shown

@@ -1,5 +1,0 @@
-use Rattle.xheaac_tool.proofs.Growing.{play_command}
-use Rattle.xheaac_tool.proofs.play_task.PlayTask.is_command.Goals as goal
-
-pub returns-clause-command : goal.returns-clause-command
-returns-clause-command g c = λ at. play_command g.C.Core.does at
