@@ -1,21 +1,53 @@
 // Worked rows of `check`.
-use crate::cases::{CHANGED, Case, EMPTIED, IMMEDIATE, PLAIN, TWO_SLOTS_LOST, check_output};
-use commands::Outcome;
-use core_iface::{Core, FoldCore};
-use outside::{MemShelf, MemSink};
-use std::alloc::Global;
+use crate::cases::{Failing, NOTHING, Row, check_both, check_row};
+use crate::streams::{BEHIND, CHANGED, EMPTIED, IMMEDIATE, JOINED, OWN, PLAIN, TWO_SLOTS_LOST};
 use std::process::Abort;
 use std::test::Fail;
-use vectors::{EIGHT_FRAMES, bytes_of};
-use xheaac_tool::do_check;
+use vectors::EIGHT_FRAMES;
 
-// The first four frames of `EIGHT_FRAMES`, and the last four of `IMMEDIATE`, of which the first opens with its configuration.
-const JOINED: &str =
-    "56E0102000F94623211CC018E400023FC01A0056E00380880056E00380840056E00380C20056E01E2000F94623211CC018E400043FC0FC1903211CC018E4000402000303800056E00380810056E00380940056E003808480";
+// A stream, its line, and its refusal.
+type Checked = (&'static [&'static str], &'static str, &'static str);
 
-// One frame, whose configuration has a preroll element with fragments. The preroll of two bytes ends in the frame, but does not
-// begin there.
-const SPLIT: &str = "56E0102000F94623211CC20310FF00FB557740";
+const CHECKED: &[Checked] = &[
+    (
+        &[EIGHT_FRAMES],
+        "frames 8, configurations 1, independent 3, immediate 0\n",
+        "",
+    ),
+    (
+        &[],
+        "frames 0, configurations 0, independent 0, immediate 0\n",
+        "",
+    ),
+    (
+        IMMEDIATE,
+        "frames 8, configurations 1, independent 3, immediate 1\n",
+        "",
+    ),
+    (
+        JOINED,
+        "frames 8, configurations 2, independent 3, immediate 1\n",
+        "",
+    ),
+    // a preroll element with fragments, and a preroll of two bytes that ends in the frame, but does not begin there
+    (
+        &["56E0102000F94623211CC20310FF00FB557740"],
+        "frames 1, configurations 1, independent 1, immediate 0\n",
+        "",
+    ),
+    (
+        PLAIN,
+        "frames 2, configurations 1, independent 1, immediate 0\n",
+        "",
+    ),
+    (
+        CHANGED,
+        "frames 3, configurations 2, independent 2, immediate 0\n",
+        "",
+    ),
+    (TWO_SLOTS_LOST, "", "refused: byte 16: sync lost\n"),
+    (EMPTIED, "", "refused: frame 1 bit 0: frame too short\n"),
+];
 
 // A LOAS frame that stands for the fifth one of `IMMEDIATE`, and why `check` refuses it: the payload has one byte less; a
 // configuration with a reserved coreSbrFrameLengthIndex, and one with 12 bits behind it; another stream identifier, and another
@@ -64,134 +96,58 @@ const BROKEN: &[(&str, &str)] = &[
     ),
 ];
 
-const CHECKED: Case<'static> = Case {
+const CHECK: Row<'static> = Row {
     words: &["check", "in"],
-    bytes: PLAIN,
-    failing_reads: &[],
-    failing_writes: &[],
-    failing_notes: &[],
-    status: 0,
-    written: 0,
+    files: &[("in", PLAIN)],
+    failing: NOTHING,
     note: "",
+    status: 0,
     fed: 0,
 };
 
-fn check_line(rt: &(impl Abort + AllocGlobal), bytes: &[u8], line: &str) -> Result<(), Fail> {
-    let case = Case { bytes, ..CHECKED };
-    check_output(rt, 5000, case, line.as_bytes(), &mut FoldCore::new())?;
-    check_output(rt, 1, case, line.as_bytes(), &mut FoldCore::new())
+// `IMMEDIATE` with another fifth frame is refused for that reason.
+fn check_broken(rt: &(impl Abort + AllocGlobal), frame: &str, reason: &str) -> Result<(), Fail> {
+    let note = format!(in rt.alloc(); "refused: frame 4: {reason}\n")?;
+    let row = Row {
+        files: &[("in", &[OWN, frame, BEHIND])],
+        note: &note,
+        status: 1,
+        ..CHECK
+    };
+    check_row(rt, 5000, &row, b"")
 }
 
 #[test]
 fn checks_streams(rt: HostRuntime) -> Result<(), Fail> {
-    let alloc = rt.alloc();
-    let eight = bytes_of(alloc, EIGHT_FRAMES)?;
-    let joined = bytes_of(alloc, JOINED)?;
-    let split = bytes_of(alloc, SPLIT)?;
-    let rows: [(&[u8], &str); 7] = [
-        (
-            &eight,
-            "frames 8, configurations 1, independent 3, immediate 0\n",
-        ),
-        (
-            b"",
-            "frames 0, configurations 0, independent 0, immediate 0\n",
-        ),
-        (
-            IMMEDIATE,
-            "frames 8, configurations 1, independent 3, immediate 1\n",
-        ),
-        (
-            &joined,
-            "frames 8, configurations 2, independent 3, immediate 1\n",
-        ),
-        (
-            &split,
-            "frames 1, configurations 1, independent 1, immediate 0\n",
-        ),
-        (
-            PLAIN,
-            "frames 2, configurations 1, independent 1, immediate 0\n",
-        ),
-        (
-            CHANGED,
-            "frames 3, configurations 2, independent 2, immediate 0\n",
-        ),
-    ];
-    for (bytes, line) in rows {
-        check_line(&rt, bytes, line)?;
+    for (parts, line, note) in CHECKED {
+        let files = [("in", *parts)];
+        let row = Row {
+            files: &files,
+            note,
+            status: if note.is_empty() { 0 } else { 1 },
+            ..CHECK
+        };
+        check_both(&rt, &row, line.as_bytes())?;
     }
-    Ok(())
-}
-
-fn check_refused<'a>(
-    rt: &(impl Abort + AllocGlobal),
-    bytes: &'a [u8],
-    note: &'a str,
-) -> Result<(), Fail> {
-    let case = Case {
-        bytes,
-        note,
-        status: 1,
-        ..CHECKED
-    };
-    check_output(rt, 5000, case, b"", &mut FoldCore::new())
-}
-
-// `IMMEDIATE` with another fifth frame.
-fn check_broken(rt: &(impl Abort + AllocGlobal), frame: &str, reason: &str) -> Result<(), Fail> {
-    let alloc = rt.alloc();
-    let mut bytes = Vec::from_slice(alloc, &IMMEDIATE[..37])?;
-    bytes.extend_from_slice(&bytes_of(alloc, frame)?)?;
-    bytes.extend_from_slice(&IMMEDIATE[57..])?;
-    let note = format!(in alloc; "refused: frame 4: {reason}\n")?;
-    check_refused(rt, &bytes, &note)
-}
-
-#[test]
-fn refuses_prerolls(rt: HostRuntime) -> Result<(), Fail> {
     for (frame, reason) in BROKEN {
         check_broken(&rt, frame, reason)?;
     }
-    Ok(())
-}
-
-#[test]
-fn refuses_streams_and_frames(rt: HostRuntime) -> Result<(), Fail> {
-    check_refused(&rt, TWO_SLOTS_LOST, "refused: byte 16: sync lost\n")?;
-    check_refused(&rt, EMPTIED, "refused: frame 1 bit 0: frame too short\n")?;
     // the line is the one write
-    let stopped = Case {
-        failing_writes: &[1],
-        status: 4,
+    let stopped = Row {
+        failing: Failing {
+            write: 1,
+            ..NOTHING
+        },
         note: "write fault\n",
-        ..CHECKED
+        status: 4,
+        ..CHECK
     };
-    check_output(&rt, 5000, stopped, b"", &mut FoldCore::new())?;
-    let unread = Case {
-        failing_reads: &[1],
-        status: 3,
+    check_row(&rt, 5000, &stopped, b"")?;
+    let unread = Row {
+        failing: Failing { read: 1, ..NOTHING },
         note: "read fault\n",
-        ..CHECKED
+        status: 3,
+        ..CHECK
     };
-    check_output(&rt, 5000, unread, b"", &mut FoldCore::new())
-}
-
-// `check` without its note.
-#[test]
-fn checks_without_note(rt: HostRuntime) -> Result<(), Fail> {
-    let alloc = rt.alloc();
-    let mut shelf = MemShelf::new(alloc, 5000, &[])?;
-    shelf.add("in", PLAIN)?;
-    let mut out = MemSink::new(alloc, 5000, &[])?;
-    let mut words = Vec::new(alloc);
-    words.push(String::from_str(alloc, "check")?)?;
-    words.push(String::from_str(alloc, "in")?)?;
-    let mut core = FoldCore::new();
-    let outcome = do_check(alloc, &words, &mut shelf, &mut out, &mut core);
-    assert!(rt; matches!(outcome, Outcome::Done));
-    let wanted = b"frames 2, configurations 1, independent 1, immediate 0\n";
-    assert_eq!(rt; out.bytes(), wanted.as_slice());
-    assert_eq!(rt; core.fed(), 0);
-    Ok(())
+    check_row(&rt, 5000, &unread, b"")
 }

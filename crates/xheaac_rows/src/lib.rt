@@ -3,25 +3,21 @@
 #![tactic(auto)]
 
 #[cfg(test)]
+mod calls;
+#[cfg(test)]
 mod cases;
 #[cfg(test)]
 mod checks;
 #[cfg(test)]
-mod command_line;
+mod faults;
 #[cfg(test)]
-mod joins;
-#[cfg(test)]
-mod leading;
-#[cfg(test)]
-mod opened;
+mod plays;
 mod program;
-#[cfg(test)]
-mod programs;
 #[cfg(test)]
 mod refusals;
 #[cfg(test)]
-mod rows;
+mod shows;
 #[cfg(test)]
-mod shown;
+mod streams;
 
 pub use program::play_source;
