@@ -12,9 +12,6 @@ use xheaac_tool::run;
 pub const USAGE: &str =
     "usage: xheaac show|check|play FILE | start FILE FRAME | plan|splice|switch FILE POS [FILE POS]... | insert FILE K FADE TARGETS | strip FILE TAIL TARGETS | make START FRAMES\n";
 
-// A file of the shelf: its name, and its bytes in parts of hexadecimal digits.
-pub type File<'a> = (&'a str, &'a [&'a str]);
-
 // The number of the call that fails, from 1 on, of each object; 0 where none does.
 #[derive(Clone, Copy)]
 pub struct Failing {
@@ -35,7 +32,8 @@ pub const NOTHING: Failing = Failing {
 #[derive(Clone, Copy)]
 pub struct Row<'a> {
     pub words: &'a [&'a str],
-    pub files: &'a [File<'a>],
+    /// The bytes of the file `in`, in parts of hexadecimal digits.
+    pub file: &'a [&'a str],
     pub failing: Failing,
     pub note: &'a str,
     pub status: u8,
@@ -43,10 +41,10 @@ pub struct Row<'a> {
 }
 
 // `play` of a stream; the status is that of the note.
-pub fn playing<'a>(files: &'a [File<'a>], note: &'a str, fed: u64) -> Row<'a> {
+pub fn playing<'a>(file: &'a [&'a str], note: &'a str, fed: u64) -> Row<'a> {
     Row {
         words: &["play", "in"],
-        files,
+        file,
         failing: NOTHING,
         note,
         status: if note.is_empty() { 0 } else { 1 },
@@ -94,9 +92,7 @@ pub fn check_row(
 {
     let alloc = rt.alloc();
     let mut shelf = MemShelf::new(alloc, piece, &[row.failing.read])?;
-    for (name, parts) in row.files {
-        shelf.add(name, &joined(alloc, parts)?)?;
-    }
+    shelf.add("in", &joined(alloc, row.file)?)?;
     let mut out = MemSink::new(alloc, piece, &[row.failing.write])?;
     let mut note = MemSink::new(alloc, piece, &[row.failing.note])?;
     let mut core = FaultyCore::new(alloc, FoldCore::new(), &[row.failing.core])?;

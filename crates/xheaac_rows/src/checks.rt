@@ -98,18 +98,18 @@ const BROKEN: &[(&str, &str)] = &[
 
 const CHECK: Row<'static> = Row {
     words: &["check", "in"],
-    files: &[("in", PLAIN)],
+    file: PLAIN,
     failing: NOTHING,
     note: "",
     status: 0,
     fed: 0,
 };
 
-// `IMMEDIATE` with another fifth frame is refused for that reason.
-fn check_broken(rt: &(impl Abort + AllocGlobal), frame: &str, reason: &str) -> Result<(), Fail> {
+// A stream is refused at its fifth frame for that reason.
+fn check_broken(rt: &(impl Abort + AllocGlobal), file: &[&str], reason: &str) -> Result<(), Fail> {
     let note = format!(in rt.alloc(); "refused: frame 4: {reason}\n")?;
     let row = Row {
-        files: &[("in", &[OWN, frame, BEHIND])],
+        file,
         note: &note,
         status: 1,
         ..CHECK
@@ -120,9 +120,8 @@ fn check_broken(rt: &(impl Abort + AllocGlobal), frame: &str, reason: &str) -> R
 #[test]
 fn checks_streams(rt: HostRuntime) -> Result<(), Fail> {
     for (parts, line, note) in CHECKED {
-        let files = [("in", *parts)];
         let row = Row {
-            files: &files,
+            file: parts,
             note,
             status: if note.is_empty() { 0 } else { 1 },
             ..CHECK
@@ -130,7 +129,7 @@ fn checks_streams(rt: HostRuntime) -> Result<(), Fail> {
         check_both(&rt, &row, line.as_bytes())?;
     }
     for (frame, reason) in BROKEN {
-        check_broken(&rt, frame, reason)?;
+        check_broken(&rt, &[OWN, *frame, BEHIND], reason)?;
     }
     // the line is the one write
     let stopped = Row {

@@ -1,15 +1,11 @@
 // Worked rows of the faults of each object, on `play`, and of words that are no command.
-use crate::cases::{Failing, File, NOTHING, Row, USAGE, check_row, playing, samples_of};
+use crate::cases::{Failing, NOTHING, Row, USAGE, check_row, playing, samples_of};
 use crate::streams::{FADED, PLAIN};
 use std::process::Abort;
 use std::test::Fail;
 use vectors::EIGHT_FRAMES;
 
-const TWO: &[File<'static>] = &[("in", PLAIN)];
-
-const EIGHT: &[File<'static>] = &[("in", &[EIGHT_FRAMES])];
-
-const FADE: &[File<'static>] = &[("in", FADED)];
+const EIGHT: &[&str] = &[EIGHT_FRAMES];
 
 // The object of which a call fails.
 #[derive(Clone, Copy)]
@@ -22,7 +18,7 @@ enum Object {
 // A stream, a size of pieces, the numbers of the calls each of which fails once, from one up to before another, the status, the
 // first sample of each frame that is written, and how many units are fed.
 type Failed = (
-    &'static [File<'static>],
+    &'static [&'static str],
     usize,
     u64,
     u64,
@@ -32,36 +28,36 @@ type Failed = (
 );
 
 const READS: &[Failed] = &[
-    (TWO, 5000, 1, 2, 3, &[], 0),
-    (TWO, 5000, 2, 3, 3, &[2, 13], 2),
-    (TWO, 5000, 3, 4, 0, &[2, 13], 2),
+    (PLAIN, 5000, 1, 2, 3, &[], 0),
+    (PLAIN, 5000, 2, 3, 3, &[2, 13], 2),
+    (PLAIN, 5000, 3, 4, 0, &[2, 13], 2),
     // the first frame is there behind 14 reads, the second behind 20, and the end at the 21st
-    (TWO, 1, 1, 15, 3, &[], 0),
-    (TWO, 1, 15, 21, 3, &[2], 1),
-    (TWO, 1, 21, 22, 3, &[2, 13], 2),
-    (TWO, 1, 22, 23, 0, &[2, 13], 2),
+    (PLAIN, 1, 1, 15, 3, &[], 0),
+    (PLAIN, 1, 15, 21, 3, &[2], 1),
+    (PLAIN, 1, 21, 22, 3, &[2, 13], 2),
+    (PLAIN, 1, 22, 23, 0, &[2, 13], 2),
     (EIGHT, 1, 20, 21, 3, &[1], 1),
 ];
 
 // one write a frame
 const WRITES: &[Failed] = &[
-    (TWO, 5000, 1, 2, 4, &[], 1),
-    (TWO, 5000, 2, 3, 4, &[2], 2),
-    (TWO, 5000, 3, 4, 0, &[2, 13], 2),
+    (PLAIN, 5000, 1, 2, 4, &[], 1),
+    (PLAIN, 5000, 2, 3, 4, &[2], 2),
+    (PLAIN, 5000, 3, 4, 0, &[2, 13], 2),
     (EIGHT, 5000, 2, 3, 4, &[1], 2),
 ];
 
 const CORES: &[Failed] = &[
     // a reset, and one step a frame
-    (TWO, 5000, 1, 3, 5, &[], 0),
-    (TWO, 1, 1, 3, 5, &[], 0),
-    (TWO, 5000, 3, 4, 5, &[2], 1),
-    (TWO, 5000, 4, 5, 0, &[2, 13], 2),
+    (PLAIN, 5000, 1, 3, 5, &[], 0),
+    (PLAIN, 1, 1, 3, 5, &[], 0),
+    (PLAIN, 5000, 3, 4, 5, &[2], 1),
+    (PLAIN, 5000, 4, 5, 0, &[2, 13], 2),
     (EIGHT, 5000, 4, 5, 5, &[1, 7], 2),
     (EIGHT, 1, 4, 5, 5, &[1, 7], 2),
     // behind a reset and four steps: a flush, a reset, the step of the carried unit, and that of the frame
-    (FADE, 5000, 6, 9, 5, &[1, 7, 28, 40], 4),
-    (FADE, 5000, 9, 10, 5, &[1, 7, 28, 40], 5),
+    (FADED, 5000, 6, 9, 5, &[1, 7, 28, 40], 4),
+    (FADED, 5000, 9, 10, 5, &[1, 7, 28, 40], 5),
 ];
 
 fn failing(object: Object, number: u64) -> Failing {
@@ -82,12 +78,7 @@ fn failing(object: Object, number: u64) -> Failing {
 }
 
 // `play` of a file where that fails.
-fn stopped(
-    files: &'static [File<'static>],
-    failing: Failing,
-    status: u8,
-    fed: u64,
-) -> Row<'static> {
+fn stopped(file: &'static [&'static str], failing: Failing, status: u8, fed: u64) -> Row<'static> {
     let note = match status {
         3 => "read fault\n",
         4 => "write fault\n",
@@ -97,7 +88,7 @@ fn stopped(
     Row {
         failing,
         status,
-        ..playing(files, note, fed)
+        ..playing(file, note, fed)
     }
 }
 
@@ -106,10 +97,10 @@ fn check_failed(
     object: Object,
     rows: &[Failed],
 ) -> Result<(), Fail> {
-    for (files, piece, from, until, status, firsts, fed) in rows {
+    for (file, piece, from, until, status, firsts, fed) in rows {
         let wanted = samples_of(rt.alloc(), firsts)?;
         for number in *from..*until {
-            let row = stopped(files, failing(object, number), *status, *fed);
+            let row = stopped(file, failing(object, number), *status, *fed);
             check_row(rt, *piece, &row, &wanted)?;
         }
     }
@@ -126,7 +117,7 @@ fn objects_fail(rt: HostRuntime) -> Result<(), Fail> {
     for block in 0..64usize {
         for written in [64 * block, 64 * block + 63] {
             let fed = if written < 2048 { 1 } else { 2 };
-            let row = stopped(TWO, failing(Object::Out, written as u64 + 1), 4, fed);
+            let row = stopped(PLAIN, failing(Object::Out, written as u64 + 1), 4, fed);
             check_row(&rt, 1, &row, samples.get(..written).unwrap_or(&[]))?;
         }
     }
@@ -157,7 +148,7 @@ fn notes_what_stopped_it(rt: HostRuntime) -> Result<(), Fail> {
         for (failing, note) in [(0, *text), (1, ""), (6, text.get(..5).unwrap_or(""))] {
             let row = Row {
                 words,
-                files: &[("in", parts)],
+                file: parts,
                 failing: Failing {
                     read: *read,
                     note: failing,

@@ -327,11 +327,7 @@ fn check_refused(
     let alloc = rt.alloc();
     let note = format!(in alloc; "refused: frame {frame}: {reason}\n")?;
     let wanted = samples_of(alloc, firsts)?;
-    check_both(
-        rt,
-        &playing(&[("in", parts)], &note, firsts.len() as u64),
-        &wanted,
-    )
+    check_both(rt, &playing(parts, &note, firsts.len() as u64), &wanted)
 }
 
 #[test]
@@ -339,9 +335,8 @@ fn plays_streams(rt: HostRuntime) -> Result<(), Fail> {
     let alloc = rt.alloc();
     for rows in [PLAYED, JOINS, STARTS, REFUSED] {
         for (parts, firsts, fed, note) in rows {
-            let files = [("in", *parts)];
             let wanted = samples_of(alloc, firsts)?;
-            check_both(&rt, &playing(&files, note, *fed), &wanted)?;
+            check_both(&rt, &playing(parts, note, *fed), &wanted)?;
         }
     }
     for (frame, reason) in PREROLLS {
@@ -353,5 +348,5 @@ fn plays_streams(rt: HostRuntime) -> Result<(), Fail> {
     for (place, sample) in [(8192usize, 8u8), (8320, 75), (8446, 141), (8448, 143)] {
         assert_eq!(rt; wanted.get(place).copied(), Some(sample));
     }
-    check_both(&rt, &playing(&[("in", FADED)], "", 9), &wanted)
+    check_both(&rt, &playing(FADED, "", 9), &wanted)
 }

@@ -112,12 +112,11 @@ const REFUSED: &[Refused] = &[
 fn refuses_streams(rt: HostRuntime) -> Result<(), Fail> {
     for (stream, note) in REFUSED {
         let parts = [*stream];
-        let files = [("in", parts.as_slice())];
         for word in ["play", "show"] {
             let words = [word, "in"];
             let row = Row {
                 words: &words,
-                ..playing(&files, note, 0)
+                ..playing(&parts, note, 0)
             };
             check_row(&rt, 5000, &row, &[])?;
         }

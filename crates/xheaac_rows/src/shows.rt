@@ -234,7 +234,7 @@ const OPENED: &[Shown] = &[
 
 const SHOW: Row<'static> = Row {
     words: &["show", "in"],
-    files: &[],
+    file: &[],
     failing: NOTHING,
     note: "",
     status: 0,
@@ -246,9 +246,8 @@ fn shows_streams(rt: HostRuntime) -> Result<(), Fail> {
     let alloc = rt.alloc();
     for rows in [SHOWN, OPENED] {
         for (parts, note, texts) in rows {
-            let files = [("in", *parts)];
             let row = Row {
-                files: &files,
+                file: parts,
                 note,
                 status: if note.is_empty() { 0 } else { 1 },
                 ..SHOW
@@ -279,7 +278,7 @@ fn shows_streams(rt: HostRuntime) -> Result<(), Fail> {
     ];
     for (parts, write, status, note, texts) in rows {
         let row = Row {
-            files: &[("in", parts)],
+            file: parts,
             failing: Failing { write, ..NOTHING },
             note,
             status,
