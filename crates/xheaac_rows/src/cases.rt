@@ -1,6 +1,4 @@
 // A row: what a run of the program is given, and what comes of it.
-ghost use Rattle.std.specs.Prelude.{◌≤◌};
-
 use core_iface::{Core, FaultyCore, FoldCore};
 use outside::{MemShelf, MemSink};
 use std::alloc::{AllocError, Global};
@@ -27,6 +25,13 @@ pub const NOTHING: Failing = Failing {
     note: 0,
     core: 0,
 };
+
+// How much the devices take and give at once: 5000 bytes, or one.
+#[derive(Clone, Copy)]
+pub enum Pieces {
+    Large,
+    Bytes,
+}
 
 // What a run is given, what it notes and answers, and how many units it feeds.
 #[derive(Clone, Copy)]
@@ -81,16 +86,18 @@ pub fn samples_of(alloc: Global, values: &[u16]) -> Result<Vec<u8>, AllocError> 
     Ok(bytes)
 }
 
-// Runs the program where the devices take and give pieces of a size, and that output is wanted.
+// Runs the program where the devices take and give such pieces, and that output is wanted.
 pub fn check_row(
     rt: &(impl Abort + AllocGlobal),
-    piece: usize,
+    pieces: Pieces,
     row: &Row<'_>,
     wanted: &[u8],
-) -> Result<(), Fail>
-    requires piece { 1 ≤ piece }
-{
+) -> Result<(), Fail> {
     let alloc = rt.alloc();
+    let piece = match pieces {
+        Pieces::Large => 5000,
+        Pieces::Bytes => 1,
+    };
     let mut shelf = MemShelf::new(alloc, piece, &[row.failing.read])?;
     shelf.add("in", &joined(alloc, row.file)?)?;
     let mut out = MemSink::new(alloc, piece, &[row.failing.write])?;
@@ -114,6 +121,6 @@ pub fn check_both(
     row: &Row<'_>,
     wanted: &[u8],
 ) -> Result<(), Fail> {
-    check_row(rt, 5000, row, wanted)?;
-    check_row(rt, 1, row, wanted)
+    check_row(rt, Pieces::Large, row, wanted)?;
+    check_row(rt, Pieces::Bytes, row, wanted)
 }

@@ -1,5 +1,5 @@
 // Worked rows of `check`.
-use crate::cases::{Failing, NOTHING, Row, check_both, check_row};
+use crate::cases::{Failing, NOTHING, Pieces, Row, check_both, check_row};
 use crate::streams::{BEHIND, CHANGED, EMPTIED, IMMEDIATE, JOINED, OWN, PLAIN, TWO_SLOTS_LOST};
 use std::process::Abort;
 use std::test::Fail;
@@ -105,16 +105,18 @@ const CHECK: Row<'static> = Row {
     fed: 0,
 };
 
-// A stream is refused at its fifth frame for that reason.
-fn check_broken(rt: &(impl Abort + AllocGlobal), file: &[&str], reason: &str) -> Result<(), Fail> {
-    let note = format!(in rt.alloc(); "refused: frame 4: {reason}\n")?;
+fn check_refused<'a>(
+    rt: &(impl Abort + AllocGlobal),
+    file: &'a [&'a str],
+    note: &'a str,
+) -> Result<(), Fail> {
     let row = Row {
         file,
-        note: &note,
+        note,
         status: 1,
         ..CHECK
     };
-    check_row(rt, 5000, &row, b"")
+    check_row(rt, Pieces::Large, &row, b"")
 }
 
 #[test]
@@ -129,7 +131,8 @@ fn checks_streams(rt: HostRuntime) -> Result<(), Fail> {
         check_both(&rt, &row, line.as_bytes())?;
     }
     for (frame, reason) in BROKEN {
-        check_broken(&rt, &[OWN, *frame, BEHIND], reason)?;
+        let note = format!(in rt.alloc(); "refused: frame 4: {reason}\n")?;
+        check_refused(&rt, &[OWN, *frame, BEHIND], &note)?;
     }
     // the line is the one write
     let stopped = Row {
@@ -141,12 +144,12 @@ fn checks_streams(rt: HostRuntime) -> Result<(), Fail> {
         status: 4,
         ..CHECK
     };
-    check_row(&rt, 5000, &stopped, b"")?;
+    check_row(&rt, Pieces::Large, &stopped, b"")?;
     let unread = Row {
         failing: Failing { read: 1, ..NOTHING },
         note: "read fault\n",
         status: 3,
         ..CHECK
     };
-    check_row(&rt, 5000, &unread, b"")
+    check_row(&rt, Pieces::Large, &unread, b"")
 }

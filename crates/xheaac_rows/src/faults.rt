@@ -1,5 +1,6 @@
 // Worked rows of the faults of each object, on `play`, and of words that are no command.
-use crate::cases::{Failing, NOTHING, Row, USAGE, check_row, playing, samples_of};
+use crate::cases::Pieces::{Bytes, Large};
+use crate::cases::{Failing, NOTHING, Pieces, Row, USAGE, check_row, playing, samples_of};
 use crate::streams::{FADED, PLAIN};
 use std::process::Abort;
 use std::test::Fail;
@@ -15,11 +16,11 @@ enum Object {
     Core,
 }
 
-// A stream, a size of pieces, the numbers of the calls each of which fails once, from one up to before another, the status, the
-// first sample of each frame that is written, and how many units are fed.
+// A stream, how much is taken at once, the numbers of the calls each of which fails once, from one up to before another, the
+// status, the first sample of each frame that is written, and how many units are fed.
 type Failed = (
     &'static [&'static str],
-    usize,
+    Pieces,
     u64,
     u64,
     u8,
@@ -28,36 +29,38 @@ type Failed = (
 );
 
 const READS: &[Failed] = &[
-    (PLAIN, 5000, 1, 2, 3, &[], 0),
-    (PLAIN, 5000, 2, 3, 3, &[2, 13], 2),
-    (PLAIN, 5000, 3, 4, 0, &[2, 13], 2),
+    (PLAIN, Large, 1, 2, 3, &[], 0),
+    (PLAIN, Large, 2, 3, 3, &[2, 13], 2),
+    (PLAIN, Large, 3, 4, 0, &[2, 13], 2),
     // the first frame is there behind 14 reads, the second behind 20, and the end at the 21st
-    (PLAIN, 1, 1, 15, 3, &[], 0),
-    (PLAIN, 1, 15, 21, 3, &[2], 1),
-    (PLAIN, 1, 21, 22, 3, &[2, 13], 2),
-    (PLAIN, 1, 22, 23, 0, &[2, 13], 2),
-    (EIGHT, 1, 20, 21, 3, &[1], 1),
+    (PLAIN, Bytes, 1, 15, 3, &[], 0),
+    (PLAIN, Bytes, 15, 21, 3, &[2], 1),
+    (PLAIN, Bytes, 21, 22, 3, &[2, 13], 2),
+    (PLAIN, Bytes, 22, 23, 0, &[2, 13], 2),
+    (EIGHT, Bytes, 20, 21, 3, &[1], 1),
 ];
 
 // one write a frame
 const WRITES: &[Failed] = &[
-    (PLAIN, 5000, 1, 2, 4, &[], 1),
-    (PLAIN, 5000, 2, 3, 4, &[2], 2),
-    (PLAIN, 5000, 3, 4, 0, &[2, 13], 2),
-    (EIGHT, 5000, 2, 3, 4, &[1], 2),
+    (PLAIN, Large, 1, 2, 4, &[], 1),
+    (PLAIN, Large, 2, 3, 4, &[2], 2),
+    (PLAIN, Large, 3, 4, 0, &[2, 13], 2),
+    (EIGHT, Large, 2, 3, 4, &[1], 2),
 ];
 
 const CORES: &[Failed] = &[
     // a reset, and one step a frame
-    (PLAIN, 5000, 1, 3, 5, &[], 0),
-    (PLAIN, 1, 1, 3, 5, &[], 0),
-    (PLAIN, 5000, 3, 4, 5, &[2], 1),
-    (PLAIN, 5000, 4, 5, 0, &[2, 13], 2),
-    (EIGHT, 5000, 4, 5, 5, &[1, 7], 2),
-    (EIGHT, 1, 4, 5, 5, &[1, 7], 2),
+    (PLAIN, Large, 1, 3, 5, &[], 0),
+    (PLAIN, Bytes, 1, 3, 5, &[], 0),
+    (PLAIN, Large, 3, 4, 5, &[2], 1),
+    (PLAIN, Bytes, 3, 4, 5, &[2], 1),
+    (PLAIN, Large, 4, 5, 0, &[2, 13], 2),
+    (PLAIN, Bytes, 4, 5, 0, &[2, 13], 2),
+    (EIGHT, Large, 4, 5, 5, &[1, 7], 2),
+    (EIGHT, Bytes, 4, 5, 5, &[1, 7], 2),
     // behind a reset and four steps: a flush, a reset, the step of the carried unit, and that of the frame
-    (FADED, 5000, 6, 9, 5, &[1, 7, 28, 40], 4),
-    (FADED, 5000, 9, 10, 5, &[1, 7, 28, 40], 5),
+    (FADED, Large, 6, 9, 5, &[1, 7, 28, 40], 4),
+    (FADED, Large, 9, 10, 5, &[1, 7, 28, 40], 5),
 ];
 
 fn failing(object: Object, number: u64) -> Failing {
@@ -97,11 +100,11 @@ fn check_failed(
     object: Object,
     rows: &[Failed],
 ) -> Result<(), Fail> {
-    for (file, piece, from, until, status, firsts, fed) in rows {
+    for (file, pieces, from, until, status, firsts, fed) in rows {
         let wanted = samples_of(rt.alloc(), firsts)?;
         for number in *from..*until {
             let row = stopped(file, failing(object, number), *status, *fed);
-            check_row(rt, *piece, &row, &wanted)?;
+            check_row(rt, *pieces, &row, &wanted)?;
         }
     }
     Ok(())
@@ -118,7 +121,12 @@ fn objects_fail(rt: HostRuntime) -> Result<(), Fail> {
         for written in [64 * block, 64 * block + 63] {
             let fed = if written < 2048 { 1 } else { 2 };
             let row = stopped(PLAIN, failing(Object::Out, written as u64 + 1), 4, fed);
-            check_row(&rt, 1, &row, samples.get(..written).unwrap_or(&[]))?;
+            check_row(
+                &rt,
+                Pieces::Bytes,
+                &row,
+                samples.get(..written).unwrap_or(&[]),
+            )?;
         }
     }
     Ok(())
@@ -158,7 +166,7 @@ fn notes_what_stopped_it(rt: HostRuntime) -> Result<(), Fail> {
                 status: *status,
                 fed: 0,
             };
-            check_row(&rt, 1, &row, b"")?;
+            check_row(&rt, Pieces::Bytes, &row, b"")?;
         }
     }
     Ok(())

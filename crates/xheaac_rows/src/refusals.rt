@@ -1,5 +1,5 @@
 // Each refusal of a stream or of a configuration, once with its whole line.
-use crate::cases::{Row, check_row, playing};
+use crate::cases::{Pieces, Row, check_row, playing};
 use std::test::Fail;
 
 // A stream of which no frame is taken, and the line that says why.
@@ -118,7 +118,7 @@ fn refuses_streams(rt: HostRuntime) -> Result<(), Fail> {
                 words: &words,
                 ..playing(&parts, note, 0)
             };
-            check_row(&rt, 5000, &row, &[])?;
+            check_row(&rt, Pieces::Large, &row, &[])?;
         }
     }
     Ok(())

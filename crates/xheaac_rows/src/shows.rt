@@ -1,5 +1,5 @@
 // Worked rows of `show`.
-use crate::cases::{Failing, NOTHING, Row, check_both, check_row, lines_of};
+use crate::cases::{Failing, NOTHING, Pieces, Row, check_both, check_row, lines_of};
 use crate::streams::{
     CHANGED, DECLARED, EMPTIED, FIRST, IMMEDIATE, SECOND, TWO_SLOTS, TWO_SLOTS_REFUSED, VERSION_1,
 };
@@ -284,7 +284,7 @@ fn shows_streams(rt: HostRuntime) -> Result<(), Fail> {
             status,
             ..SHOW
         };
-        check_row(&rt, 5000, &row, &lines_of(alloc, texts)?)?;
+        check_row(&rt, Pieces::Large, &row, &lines_of(alloc, texts)?)?;
     }
     Ok(())
 }
