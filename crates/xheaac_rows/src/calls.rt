@@ -1,15 +1,12 @@
 // The calls beside `run`: the commands without their note, a command line whose words may be missing, and the program of
 // docs/PLAYER.md.
-ghost use Rattle.std.specs.Prelude.{◌≡◌, [], ◌∷◌, codes, IfOk};
-ghost use Rattle.xheaac_tool.specs.Words.{texts};
-
 use crate::cases::{USAGE, joined, samples_of};
 use crate::program::play_source;
 use crate::streams::{JOINED, PLAIN};
 use commands::Outcome;
 use core_iface::{Core, FoldCore};
 use outside::{FromShelf, MemShelf, MemSink, Shelf};
-use std::alloc::{AllocError, Global};
+use std::alloc::AllocError;
 use std::process::Abort;
 use std::test::Fail;
 use xheaac_tool::{WordsFault, do_check, do_play, do_show, run_line};
@@ -19,56 +16,55 @@ const SHOWN: &str =
 
 const CHECKED: &str = "frames 2, configurations 1, independent 1, immediate 0\n";
 
-// The words of a command on the file `in`.
-fn words_of(alloc: Global, command: &str) -> Result<Vec<String>, AllocError>
-    ensures { IfOk result (λ words. texts words.items ≡ command.now ∷ codes "in" ∷ []) }
-{
+#[test]
+fn shows_without_note(rt: HostRuntime) -> Result<(), Fail> {
+    let alloc = rt.alloc();
+    let mut shelf = MemShelf::new(alloc, 5000, &[])?;
+    shelf.add("in", &joined(alloc, PLAIN)?)?;
+    let mut out = MemSink::new(alloc, 5000, &[])?;
     let mut words = Vec::new(alloc);
-    words.push(String::from_str(alloc, command)?)?;
+    words.push(String::from_str(alloc, "show")?)?;
     words.push(String::from_str(alloc, "in")?)?;
-    Ok(words)
-}
-
-// A command that was called, where the shelf holds the plain stream, wrote that and fed so many units.
-fn check_call(
-    rt: &(impl Abort + AllocGlobal),
-    outcome: Outcome,
-    out: &MemSink,
-    core: &FoldCore,
-    wanted: &[u8],
-    fed: u64,
-) {
+    let mut core = FoldCore::new();
+    let outcome = do_show(alloc, &words, &mut shelf, &mut out, &mut core);
     assert!(rt; matches!(outcome, Outcome::Done));
-    assert_eq!(rt; out.bytes(), wanted);
-    assert_eq!(rt; core.fed(), fed);
+    assert_eq!(rt; out.bytes(), SHOWN.as_bytes());
+    assert_eq!(rt; core.fed(), 0);
+    Ok(())
 }
 
 #[test]
-fn runs_commands_without_note(rt: HostRuntime) -> Result<(), Fail> {
+fn checks_without_note(rt: HostRuntime) -> Result<(), Fail> {
     let alloc = rt.alloc();
-    let plain = joined(alloc, PLAIN)?;
     let mut shelf = MemShelf::new(alloc, 5000, &[])?;
-    shelf.add("in", &plain)?;
+    shelf.add("in", &joined(alloc, PLAIN)?)?;
     let mut out = MemSink::new(alloc, 5000, &[])?;
+    let mut words = Vec::new(alloc);
+    words.push(String::from_str(alloc, "check")?)?;
+    words.push(String::from_str(alloc, "in")?)?;
     let mut core = FoldCore::new();
-    let words = words_of(alloc, "show")?;
-    let outcome = do_show(alloc, &words, &mut shelf, &mut out, &mut core);
-    check_call(&rt, outcome, &out, &core, SHOWN.as_bytes(), 0);
-
-    let mut shelf = MemShelf::new(alloc, 5000, &[])?;
-    shelf.add("in", &plain)?;
-    let mut out = MemSink::new(alloc, 5000, &[])?;
-    let words = words_of(alloc, "check")?;
     let outcome = do_check(alloc, &words, &mut shelf, &mut out, &mut core);
-    check_call(&rt, outcome, &out, &core, CHECKED.as_bytes(), 0);
+    assert!(rt; matches!(outcome, Outcome::Done));
+    assert_eq!(rt; out.bytes(), CHECKED.as_bytes());
+    assert_eq!(rt; core.fed(), 0);
+    Ok(())
+}
 
+#[test]
+fn plays_without_note(rt: HostRuntime) -> Result<(), Fail> {
+    let alloc = rt.alloc();
     let mut shelf = MemShelf::new(alloc, 5000, &[])?;
-    shelf.add("in", &plain)?;
+    shelf.add("in", &joined(alloc, PLAIN)?)?;
     let mut out = MemSink::new(alloc, 5000, &[])?;
+    let mut words = Vec::new(alloc);
+    words.push(String::from_str(alloc, "play")?)?;
+    words.push(String::from_str(alloc, "in")?)?;
     let mut core = FoldCore::new();
-    let words = words_of(alloc, "play")?;
     let outcome = do_play(alloc, &words, &mut shelf, &mut out, &mut core);
-    check_call(&rt, outcome, &out, &core, &samples_of(alloc, &[2, 13])?, 2);
+    assert!(rt; matches!(outcome, Outcome::Done));
+    let samples = samples_of(alloc, &[2, 13])?;
+    assert_eq!(rt; out.bytes(), samples.as_slice());
+    assert_eq!(rt; core.fed(), 2);
     Ok(())
 }
 
@@ -99,7 +95,10 @@ fn check_line(
 fn runs_command_lines(rt: HostRuntime) -> Result<(), Fail> {
     let alloc = rt.alloc();
     let samples = samples_of(alloc, &[2, 13])?;
-    check_line(&rt, Ok(words_of(alloc, "play")?), 0, &samples, "", 2)?;
+    let mut words = Vec::new(alloc);
+    words.push(String::from_str(alloc, "play")?)?;
+    words.push(String::from_str(alloc, "in")?)?;
+    check_line(&rt, Ok(words), 0, &samples, "", 2)?;
     check_line(&rt, Err(WordsFault::NotText), 2, b"", USAGE, 0)?;
     check_line(
         &rt,

@@ -316,18 +316,16 @@ fn faded(alloc: Global) -> Result<Vec<u8>, AllocError> {
     Ok(bytes)
 }
 
-// A stream is refused at that frame for that reason, behind the frames with those first samples.
-fn check_refused(
+// The stream is played up to a refusal, if there is one.
+fn check_stream<'a>(
     rt: &(impl Abort + AllocGlobal),
-    parts: &[&str],
-    frame: u64,
-    reason: &str,
+    file: &'a [&'a str],
     firsts: &[u16],
+    fed: u64,
+    note: &'a str,
 ) -> Result<(), Fail> {
-    let alloc = rt.alloc();
-    let note = format!(in alloc; "refused: frame {frame}: {reason}\n")?;
-    let wanted = samples_of(alloc, firsts)?;
-    check_both(rt, &playing(parts, &note, firsts.len() as u64), &wanted)
+    let wanted = samples_of(rt.alloc(), firsts)?;
+    check_both(rt, &playing(file, note, fed), &wanted)
 }
 
 #[test]
@@ -335,15 +333,21 @@ fn plays_streams(rt: HostRuntime) -> Result<(), Fail> {
     let alloc = rt.alloc();
     for rows in [PLAYED, JOINS, STARTS, REFUSED] {
         for (parts, firsts, fed, note) in rows {
-            let wanted = samples_of(alloc, firsts)?;
-            check_both(&rt, &playing(parts, note, *fed), &wanted)?;
+            check_stream(&rt, parts, firsts, *fed, note)?;
         }
     }
     for (frame, reason) in PREROLLS {
-        check_refused(&rt, &[frame, BEHIND], 0, reason, &[])?;
-        check_refused(&rt, &[BEFORE, frame, BEHIND], 4, reason, &[1, 7, 28, 40])?;
+        let note = format!(in alloc; "refused: frame 0: {reason}\n")?;
+        check_stream(&rt, &[*frame, BEHIND], &[], 0, &note)?;
+        let note = format!(in alloc; "refused: frame 4: {reason}\n")?;
+        check_stream(&rt, &[BEFORE, *frame, BEHIND], &[1, 7, 28, 40], 4, &note)?;
     }
-    let wanted = faded(alloc)?;
+    Ok(())
+}
+
+#[test]
+fn plays_a_fade(rt: HostRuntime) -> Result<(), Fail> {
+    let wanted = faded(rt.alloc())?;
     // the samples of frame 4 at the times 0, 64, 127 and 128
     for (place, sample) in [(8192usize, 8u8), (8320, 75), (8446, 141), (8448, 143)] {
         assert_eq!(rt; wanted.get(place).copied(), Some(sample));
