@@ -12,9 +12,9 @@ use Rattle.latm.specs.MuxConfig.{IsWellFormed}
 use Rattle.latm.specs.MuxElement.{element, body, same_refused}
 use Rattle.au_stream.specs.Elements.{IsElement, Carries}
 use Rattle.au_stream.specs.Frames.{frames_from}
-use Rattle.au_stream.specs.Script.{IsScript, End}
 use Rattle.au_stream.proofs.Scripts.{script_end}
-use Rattle.example_plan.specs.Example.{mono, joining_frame}
+use Rattle.playing.specs.Spliced.{CarriesSplice}
+use Rattle.example_plan.specs.Example.{mono, joining_frame, example}
 use Rattle.example_plan.specs.File.{old_opening, old_others, new_opening, new_others, example_file}
 use Rattle.example_plan.proofs.Configs.{mono_fits}
 
@@ -140,5 +140,6 @@ carried =
     (own_carried (Some (mux 1)) 2 joining_frame.au (drop 3 new_opening) 4 (omega arith) joining_is new_elements new_others
     (shorts_carried 2 (0x02 ∷ 0x28 ∷ 0x09 ∷ []) new_shorts [] [] refl)))
 
-pub script : IsScript example_file (frames_from None elements) End
-script = script_end example_file elements [] (omega arith) carried refl
+-- the file ends behind its frames, which are those of the plan
+pub carries_splice : CarriesSplice example_file example
+carries_splice = (frames_from None elements, script_end example_file elements [] (omega arith) carried refl, refl)

@@ -1,5 +1,5 @@
 pub mod Configs
 pub mod Streams
 pub mod Joining
-pub mod Sound
 pub mod Elements
+pub mod Sound

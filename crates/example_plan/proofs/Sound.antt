@@ -21,6 +21,7 @@ use Rattle.example_plan.specs.Example.{old_config, new_config, short_frame, old_
 use Rattle.example_plan.specs.Laws.{IsSoundExample}
 use Rattle.example_plan.proofs.Configs.{mono_fits, are_level}
 use Rattle.example_plan.proofs.Streams.{IsOf, bare_in, bare_frame, all_coded, all_of, bare_0x90, bare_0x81, bare_0xA0, old_bytes, first_bytes, last_bytes, old_bare, first_bare, last_bare}
+use Rattle.example_plan.proofs.Elements.{carries_splice}
 use Rattle.example_plan.proofs.Joining.{joined, is_joined, joining_carries}
 
 old_whole : IsWholeStream old_stream
@@ -80,4 +81,4 @@ sound warm few = (
 )
 
 pub sound_example : IsSoundExample
-sound_example = record { sound = sound; fold = sound fold_core.warm (omega arith); fades = joining_carries }
+sound_example = record { sound = sound; fold = sound fold_core.warm (omega arith); fades = joining_carries; file = carries_splice }
