@@ -20,7 +20,7 @@ use Rattle.preroll.proofs.Tried.{is_opened, pass_6, pass_7, pass_8, pass_9, are_
 use Rattle.plans.specs.Coded.{CarriesUnits}
 use Rattle.example_plan.specs.Example.{new_config, joining_frame, joining}
 use Rattle.example_plan.proofs.Configs.{mono_fits}
-use Rattle.example_plan.proofs.Streams.{bare_in, bare_frame, bare_0x81}
+use Rattle.example_plan.proofs.Streams.{bare_in, bare_frame, bare_81}
 
 -- ---- the frame
 
@@ -71,13 +71,13 @@ abbrev units : List Frame
 units = bare_in 0x81 ∷ []
 
 are_frames : AreFrames new_config carried.units units
-are_frames = ap (λ o. o ∷ []) (frame_of_is.found new_config (0x81 ∷ []) (bare_in 0x81) (bare_frame 2 0x81 bare_0x81))
+are_frames = ap (λ o. o ∷ []) (frame_of_is.found new_config (0x81 ∷ []) (bare_in 0x81) (bare_frame 2 0x81 bare_81))
 
 unit_is : joining.units ≡ map (unit_of new_config) units
 unfolding bits_of num trimmed
 unit_is = refl
 
-carries_joining : Carries new_config joined true joining.units
+pub carries_joining : Carries new_config joined true joining.units
 carries_joining =
     let six = pass_6 new_config joined carried opened (λ none. none.1 new_config config_is) (λ other. other.2 (one_config config_bytes other.0 new_config other.1 config_is)) in
     let seven = pass_7 new_config joined carried units opened six are_frames in

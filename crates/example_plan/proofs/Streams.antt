@@ -40,17 +40,17 @@ pub all_of : (c : UsacConfig) (bs : List ℕ) → All (IsOf c) (map (short_frame
 all_of c [] = All-nil (IsOf c)
 all_of c (b ∷ bs) = All-cons (IsOf c) (short_frame c b) (map (short_frame c) bs) refl (all_of c bs)
 
-pub bare_0xA0 : IsBare 0xA0
+pub bare_A0 : IsBare 0xA0
 unfolding bits_of num
-bare_0xA0 = refl
+bare_A0 = refl
 
-pub bare_0x90 : IsBare 0x90
+pub bare_90 : IsBare 0x90
 unfolding bits_of num
-bare_0x90 = refl
+bare_90 = refl
 
-pub bare_0x81 : IsBare 0x81
+pub bare_81 : IsBare 0x81
 unfolding bits_of num
-bare_0x81 = refl
+bare_81 = refl
 
 -- the bytes of the old stream, and of the new one before and behind its frame with a preroll
 abbrev pub old_bytes : List ℕ

@@ -6,4 +6,4 @@
 
 mod laws;
 
-pub use laws::{example_is_played, example_is_sound};
+pub use laws::{example_is_cut_into_ramps, example_is_played, example_is_sound};
