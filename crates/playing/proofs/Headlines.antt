@@ -49,8 +49,8 @@ module _ (d : Definitions) (takes : TakesFilesOfSplices d) (text : List ℕ) (t 
   splice plan sound is =
       let x = (takes.file text).splice plan sound is in
       elim (a.taken x.0 x.1 (λ r never. never)) [
-      | inl h ↦ inl (record { status_is = h.status_is; wrote = h.wrote ∙ ap (append_known t.written_before) x.2; each = takes.each plan sound; quiet = h.quiet })
-      | inr e ↦ inr e
+        | inl h ↦ inl (record { status_is = h.status_is; wrote = h.wrote ∙ ap (append_known t.written_before) x.2; each = takes.each plan sound; quiet = h.quiet })
+        | inr e ↦ inr e
       ]
 
   other : CarriesNoSplice d text → AnswersRefusal d text t n status ⊎ (AnswersLarge d text t n status ⊎ (status ≡ 6))
@@ -86,6 +86,6 @@ answers_start d takes first text t n status a = record { sound = sound; answers 
     sound stream carries start =
         let x = takes text stream first carries start in
         elim (a.taken x.frames x.passes x.ends) [
-        | inl h ↦ inl (record { status_is = h.status_is; wrote = h.wrote ∙ ap (append_known t.written_before) x.gives; quiet = h.quiet })
-        | inr e ↦ inr e
+          | inl h ↦ inl (record { status_is = h.status_is; wrote = h.wrote ∙ ap (append_known t.written_before) x.gives; quiet = h.quiet })
+          | inr e ↦ inr e
         ]

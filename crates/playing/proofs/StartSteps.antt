@@ -93,9 +93,9 @@ module _ (d : Definitions) (first : ℕ) (before : List Frame) (f : Frame) (conf
       let now = last_config (drop first before) in
       let skip = not_skipped first before le in
       let here : (e : PlayFault) → PlayerRefuses entry d p.last config au e → PlayerRefuses (entry_at first (length before)) d now (config_of f) f.au e = λ e h.
-          subst (λ (y : Entry). PlayerRefuses y d now (config_of f) f.au e) is (rules_here d f entry p.last now config au e st.last ce ae h) in
+      subst (λ (y : Entry). PlayerRefuses y d now (config_of f) f.au e) is (rules_here d f entry p.last now config au e st.last ce ae h) in
       let there : (e : PlayFault) → PlayerRefuses (entry_at first (length before)) d now (config_of f) f.au e → PlayerRefuses entry d p.last config au e = λ e h.
-          rules_there d f entry p.last now config au e st.last ce ae (subst (λ (y : Entry). PlayerRefuses y d now (config_of f) f.au e) (sym is) h) in
+      rules_there d f entry p.last now config au e st.last ce ae (subst (λ (y : Entry). PlayerRefuses y d now (config_of f) f.au e) (sym is) h) in
       let played : (r : Refusal) → RefusesUnless (is_skipped first before) d first before f r → PlayedRefuses d first before f r = λ r h. subst (λ (b : Bool). RefusesUnless b d first before f r) skip h in
       record {
         fits = fits;

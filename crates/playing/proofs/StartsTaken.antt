@@ -61,11 +61,10 @@ last_is first before f le = ap last_config (drop-append-le first before (f ∷ [
 later_taken : (d : Definitions) (first : ℕ) (before fs : List Frame) → first ≤ length before → entry_at first (length before) ≡ Next → TakesFrames d (last_config (drop first before)) (map coded fs) → TakesAll (starting d first) before fs
 later_taken d first before [] le e h = tt
 later_taken d first before (f ∷ fs) le e h =
-    let long = length-append before (f ∷ []) in
-    (
+    let long = length-append before (f ∷ []) in (
       played_taken d first Next (last_config (drop first before)) before f le e refl h.0,
       later_taken d first (before ++ f ∷ []) fs (omega (arith, long, le)) (goes_on first (length (before ++ f ∷ [])) (omega (arith, long, le)))
-      (subst (λ (o : Option UsacConfig). TakesFrames d o (map coded fs)) (sym (last_is first before f le)) h.1),
+          (subst (λ (o : Option UsacConfig). TakesFrames d o (map coded fs)) (sym (last_is first before f le)) h.1),
     )
 
 -- so many frames are skipped, and the next one is the first
@@ -74,11 +73,10 @@ all_taken d first before [] k pos n h = tt
 all_taken d first before (f ∷ fs) zero pos n h =
     let long = length-append before (f ∷ []) in
     let le : first ≤ length before = omega (arith, n) in
-    let at : length before ≡ first = omega (arith, n) in
-    (
+    let at : length before ≡ first = omega (arith, n) in (
       played_taken d first Within (last_config (drop first before)) before f le (ap (entry_at first) at ∙ enters_first first pos) refl h.0,
       later_taken d first (before ++ f ∷ []) fs (omega (arith, long, le)) (goes_on first (length (before ++ f ∷ [])) (omega (arith, long, le)))
-      (subst (λ (o : Option UsacConfig). TakesFrames d o (map coded fs)) (sym (last_is first before f le)) h.1),
+          (subst (λ (o : Option UsacConfig). TakesFrames d o (map coded fs)) (sym (last_is first before f le)) h.1),
     )
 all_taken d first before (f ∷ fs) (suc k) pos n h =
     let long = length-append before (f ∷ []) in

@@ -81,7 +81,8 @@ impl Task for Start {
         let au = au.as_slice();
         let config = &mux.asc.usac;
         let entry = entry_at(self.first, number);
-        self.frames.play(alloc, number, entry, config, au, out, core)
+        self.frames
+            .play(alloc, number, entry, config, au, out, core)
     }
 
     /// Refuses a file that ends before the first frame that is played. Writes nothing.

@@ -23,5 +23,7 @@ mod refusals;
 mod rows;
 #[cfg(test)]
 mod shown;
+#[cfg(test)]
+mod starts;
 
 pub use program::play_source;
