@@ -49,6 +49,10 @@ EndsBefore first frames r = (length frames ≤ first) × (r ≡ record { place =
 abbrev pub start_units : ℕ → List Frame → Frame → ℕ
 start_units first before f = if is_skipped first before then 0 else play_units (from_first first before) f
 
+-- and nothing is asked of the core for it
+abbrev pub StartServes : Definitions → ℕ → List Frame → Frame → Type 0
+StartServes d first before f = is_skipped first before ≡ false → IsServed d f
+
 -- `start` writes the sample bytes of the frames from one on, as `play` does of a stream of these alone.
 abbrev pub starting : Definitions → ℕ → Command
 starting d first = record {
@@ -60,7 +64,7 @@ starting d first = record {
   Closes = ClosesSilently;
   plays = true;
   units = start_units first;
-  Serves = IsServed d;
+  Serves = StartServes d first;
 }
 
 -- The frames before the first one were skipped, the player was fed the others, and the core stands where they lead.

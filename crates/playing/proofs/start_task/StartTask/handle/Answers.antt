@@ -2,7 +2,7 @@ use Rattle.std.proofs.Common.{◌≡◌, ◌+◌, ◌<◌, ◌≤◌, ◌++◌, 
 use Rattle.std.proofs.lemmas.List.{length-append}
 use Rattle.au_stream.specs.Frames.{config_of}
 use Rattle.playing.proofs.PlayerSteps.{handled, handled_calm, where_played}
-use Rattle.playing.proofs.StartSteps.{start_skipped, stands_skipped, start_follows, start_stands}
+use Rattle.playing.proofs.StartSteps.{not_skipped, start_skipped, stands_skipped, start_follows, start_stands}
 use Rattle.playing.specs.Starting.{entry_at}
 use Rattle.playing.proofs.start_task.StartTask.handle.Goals as goal
 
@@ -37,7 +37,7 @@ returns-clause-calm_decodes g c = λ at before f event mux st calm served.
     let le : at ≤ length before = omega (arith, c.if-number-self.false, n, st.first_is) in
     let entry = c.entry_at-entry.ensures ∙ (ap (λ first. entry_at first c.frame-number.result) st.first_is ∙ ap (entry_at at) n) in
     let call = start_follows g.C.Core.does at before f c.args.mux.now.asc.usac _ c.args.self.now.frames.player le c.requires.well_formed.asc.usac config (c.as_slice-au.ensures ∙ (c.in_ok-au.ensures ∙ event.au)) c.entry_at-entry.result _ entry st.player in
-    handled_calm _ g.C.Core.does _ before f _ _ _ _ _ _ _ _ _ _ call n c.play.result c.play.ensures.plays served (c.play.ensures.calm_serves calm)
+    handled_calm _ g.C.Core.does _ before f _ _ _ _ _ _ _ _ _ _ call n c.play.result c.play.ensures.plays (λ takes. served takes (not_skipped at before le)) (c.play.ensures.calm_serves calm)
 
 pub returns-clause-stands : goal.returns-clause-stands
 returns-clause-stands g c = λ at before f event mux st.
