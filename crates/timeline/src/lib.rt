@@ -8,6 +8,7 @@
 
 mod bounding;
 mod fault;
+pub mod laws;
 mod piece;
 mod planning;
 mod positions;
