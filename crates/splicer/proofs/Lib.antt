@@ -1,0 +1,6 @@
+pub mod Refusals
+pub mod Frames
+pub mod Joining
+pub mod Later
+pub mod Pieces
+pub mod Held
