@@ -4,3 +4,5 @@ pub mod Joining
 pub mod Later
 pub mod Pieces
 pub mod Held
+pub mod Plans
+pub mod Given

@@ -2,7 +2,7 @@
 //!
 //! The functions run no code; their contracts are the theorems.
 ghost use Rattle.splicer.specs.Foreign.{IsDecidedByLast};
-ghost use Rattle.splicer.specs.Laws.{HoldsLastUnits, GivesSoundPieces};
+ghost use Rattle.splicer.specs.Laws.{HoldsLastUnits, GivesSoundPieces, GivesFrames, GiveSoundPlans};
 
 /// The last units of a stream decide which carried unit is foreign, as all its units do; and none is foreign exactly where the
 /// carried units are those that the stream has directly before the frame.
@@ -20,4 +20,15 @@ pub fn runs_hold_the_last_units()
 /// between the positions that it was asked for, and it goes on soundly behind the rendition before, or begins a sound plan.
 pub fn sound_pieces_are_given()
     ensures { GivesSoundPieces }
+{}
+
+/// The frames that such a run says are of the piece, which are those with the turns start, join and play, are the frames of the piece.
+pub fn given_frames_are_the_piece()
+    ensures { GivesFrames }
+{}
+
+/// Runs over renditions one after another refuse nothing, and give parts of them, exactly where these are a sound plan that is timed by
+/// the positions. So whoever checks renditions by runs plans soundly, and refuses no sound plan.
+pub fn sound_plans_are_given()
+    ensures { GiveSoundPlans }
 {}

@@ -44,10 +44,10 @@ rises_on a b xs h r (suc i) k =
     let P : ℕ → Type 0 = λ m. slice_index (a ∷ b ∷ xs) (suc i) < slice_index (a ∷ b ∷ xs) m in
     subst P (sym e) (r i n)
 
-rises_first : (a b : ℕ) (xs : List ℕ) → IsStrictlyIncreasing (a ∷ b ∷ xs) → a < b
+pub rises_first : (a b : ℕ) (xs : List ℕ) → IsStrictlyIncreasing (a ∷ b ∷ xs) → a < b
 rises_first a b xs r = r 0 (omega arith)
 
-rises_rest : (a b : ℕ) (xs : List ℕ) → IsStrictlyIncreasing (a ∷ b ∷ xs) → IsStrictlyIncreasing (b ∷ xs)
+pub rises_rest : (a b : ℕ) (xs : List ℕ) → IsStrictlyIncreasing (a ∷ b ∷ xs) → IsStrictlyIncreasing (b ∷ xs)
 rises_rest a b xs r i k =
     let e : suc i + 1 ≡ suc (i + 1) = omega arith in
     let P : ℕ → Type 0 = λ m. slice_index (a ∷ b ∷ xs) (suc i) < slice_index (a ∷ b ∷ xs) m in
