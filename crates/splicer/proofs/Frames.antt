@@ -1,5 +1,5 @@
 -- The rules and the turn of an access unit that is a frame.
-use Rattle.std.proofs.Common.{◌≡◌, ℕ, ◌/◌, Bool, true, false, List, [], length, Option, Some, None, Result, Ok, Err, refl, sym, ap, subst, ◌∙◌, arith}
+use Rattle.std.proofs.Common.{◌≡◌, ℕ, Bool, false, List, [], length, Option, Some, None, Result, Ok, Err, refl, sym, ap, subst, ◌∙◌}
 use Rattle.std.specs.Prelude.{◌==◌, ◌&&◌, nat_lt, is_none, is_some, if◌then◌else◌}
 use Rattle.std.proofs.lemmas.Bool.{ne_eqb}
 use Rattle.usac_cfg.specs.declared.usac_config.UsacConfig.{UsacConfig}
@@ -8,21 +8,20 @@ use Rattle.usac_frame.specs.AccessUnit.{IsFrame, unit_in}
 use Rattle.usac_frame.specs.Units.{UnitValue, unit_of, payload_length}
 use Rattle.preroll.specs.declared.carried_units.CarriedUnits.{CarriedUnits}
 use Rattle.preroll.specs.declared.fault.CarryFault.{CarryFault}
-use Rattle.preroll.specs.Carried.{preroll_bytes}
 use Rattle.preroll.specs.Carrying.{Carried, units_in, fades_in, short_at, carried_of, carried_in}
 use Rattle.preroll.proofs.Judging.{carried_in_frame}
 use Rattle.plans.specs.Coded.{Coded}
 use Rattle.splicer.specs.declared.asked.Asked.{Asked}
 use Rattle.splicer.specs.declared.judged.Judged.{Judged}
 use Rattle.splicer.specs.declared.turn.Turn.{Turn}
-use Rattle.splicer.specs.declared.turn.Turn.TheVariants.{Skip, Start, Join, Play, After}
+use Rattle.splicer.specs.declared.turn.Turn.TheVariants.{Skip, Play, After}
 use Rattle.splicer.specs.declared.fault.SpliceFault.{SpliceFault}
-use Rattle.splicer.specs.Rules.{or_then, opening_rule, change_rule, short_rule, start_of, start_rule, carried_rule, other_rule, join_rule, first_rule, later_rule, from_of, first_fault, later_fault, fault_of}
+use Rattle.splicer.specs.Rules.{or_then, opening_rule, change_rule, short_rule, start_of, start_rule, carried_rule, other_rule, first_rule, later_rule, from_of, first_fault, later_fault, fault_of}
 use Rattle.splicer.specs.Runs.{RunValue, fault}
-use Rattle.splicer.specs.Turns.{to_of, is_before, beginning, turn_at, turn_of}
+use Rattle.splicer.specs.Turns.{to_of, is_before, beginning, turn_at}
 use Rattle.splicer.specs.Steps.{IfRule, Judges, head_units, head_fade, head_rule, head_joins, IsHead, IsJoined, IsJudged, IsJudgedLater}
 use Rattle.splicer.specs.SeenFound.{not_short, unit_seen, bytes_seen}
-use Rattle.splicer.proofs.Refusals.{rule_map, then_later, refused_later}
+use Rattle.splicer.proofs.Refusals.{rule_map, then_later}
 
 -- ---- frame 0, of which it is known what it carries
 

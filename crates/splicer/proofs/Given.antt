@@ -1,12 +1,11 @@
 -- The frames that a run says are of the piece are the frames of the piece.
-use Rattle.std.proofs.Common.{◌≡◌, ℕ, zero, suc, ◌+◌, ◌-◌, ◌*◌, ◌/◌, ◌≤◌, ◌<◌, Bool, true, false, List, [], ◌∷◌, ◌++◌, length, take, drop, Option, Some, None, refl, ap, sym, subst, ◌∙◌, arith, ◌⊎◌, inl, inr}
-use Rattle.std.specs.Prelude.{◌==◌, ◌&&◌, nat_lt, is_none, slice_range, if◌then◌else◌, All}
+use Rattle.std.proofs.Common.{◌≡◌, ℕ, zero, suc, ◌+◌, ◌-◌, ◌/◌, ◌≤◌, ◌<◌, Bool, true, false, List, [], ◌∷◌, ◌++◌, length, take, drop, Option, Some, None, refl, ap, sym, subst, ◌∙◌, arith, ◌⊎◌, inl, inr}
+use Rattle.std.specs.Prelude.{◌==◌, ◌&&◌, nat_lt, is_none, slice_range, if◌then◌else◌}
 use Rattle.std.proofs.lemmas.List.{take_all}
-use Rattle.std.proofs.lemmas.Bool.{eq-eqb}
+use Rattle.std.proofs.lemmas.Bool.{eq-eqb, ltb-true, ltb-false, lt-ltb, le-ltb}
 use Rattle.std.proofs.lemmas.Bool.Decides.{nat_tests}
 use Rattle.std.proofs.lemmas.List.Elements.{All-head, All-tail}
 use Rattle.std.proofs.Math.Nat.{mul-div_cancel}
-use Rattle.layout.specs.Layout.{FitsOption}
 use Rattle.usac_cfg.specs.declared.usac_config.UsacConfig.{UsacConfig}
 use Rattle.usac_cfg.specs.UsacConfig.{IsWellFormed, frame_length}
 use Rattle.usac_frame.specs.Units.{UnitValue}
@@ -16,22 +15,16 @@ use Rattle.plans.specs.Coded.{Coded}
 use Rattle.plans.specs.Parts.{part_frames}
 use Rattle.splicer.specs.declared.asked.Asked.{Asked}
 use Rattle.splicer.specs.declared.turn.Turn.{Turn}
-use Rattle.splicer.specs.declared.turn.Turn.TheVariants.{Skip, Start, Join, Play, After}
+use Rattle.splicer.specs.declared.turn.Turn.TheVariants.{Skip, Play, After}
 use Rattle.splicer.specs.Foreign.{last_n}
 use Rattle.splicer.specs.Rules.{from_of}
 use Rattle.splicer.specs.Turns.{frame_until, to_of, is_before, beginning, turn_at}
-use Rattle.splicer.specs.Runs.{new_run, turn, behind}
-use Rattle.splicer.specs.Pieces.{EndsAt, part_of, GivesPiece, IsSoundPiece, is_given, given_if, given}
+use Rattle.splicer.specs.Runs.{new_run}
+use Rattle.splicer.specs.Pieces.{EndsAt, part_of, IsSoundPiece, is_given, given_if, given}
 use Rattle.splicer.specs.Laws.{GivesFrames}
 use Rattle.splicer.proofs.Refusals.{some_length}
 use Rattle.splicer.proofs.Later.{unit_at, AreOf, AreWell, later}
 use Rattle.splicer.proofs.Pieces.{gives_sound_pieces}
-
-less : (x y : ℕ) → x < y → nat_lt x y ≡ true
-less x y h = grind (arith, nat_tests)
-
-not_less : (x y : ℕ) → y ≤ x → nat_lt x y ≡ false
-not_less x y h = grind (arith, nat_tests)
 
 other_number : (x y : ℕ) → y < x → (x == y) ≡ false
 other_number x y h = grind (arith, nat_tests)
@@ -62,16 +55,16 @@ module _ (from : ℕ) (t : Option ℕ) (b : Bool) (n : ℕ) (us : List UnitValue
   later_here = if is_before n t then Play else After
 
   skips : n < from → is_given turn_here ≡ false
-  skips h = ap (λ (x : Bool). is_given (if x then Skip else (if n == from then first_here else later_here))) (less n from h)
+  skips h = ap (λ (x : Bool). is_given (if x then Skip else (if n == from then first_here else later_here))) (lt-ltb n from h)
 
   begins : n ≡ from → is_given turn_here ≡ true
   begins h =
-      ap (λ (x : Bool). is_given (if x then Skip else (if n == from then first_here else later_here))) (not_less n from (omega (arith, h)))
+      ap (λ (x : Bool). is_given (if x then Skip else (if n == from then first_here else later_here))) (le-ltb n from (omega (arith, h)))
       ∙ (ap (λ (x : Bool). is_given (if x then first_here else later_here)) (eq-eqb n from h) ∙ begins_given ((from == 0) && b) (length us) fade)
 
   goes_on : from < n → is_given turn_here ≡ is_before n t
   goes_on h =
-      ap (λ (x : Bool). is_given (if x then Skip else (if n == from then first_here else later_here))) (not_less n from (omega (arith, h)))
+      ap (λ (x : Bool). is_given (if x then Skip else (if n == from then first_here else later_here))) (le-ltb n from (omega (arith, h)))
       ∙ (ap (λ (x : Bool). is_given (if x then first_here else later_here)) (other_number n from h) ∙ either (is_before n t))
     where
       either : (x : Bool) → is_given (if x then Play else After) ≡ x
@@ -82,16 +75,16 @@ module _ (from : ℕ) (t : Option ℕ) (b : Bool) (n : ℕ) (us : List UnitValue
   before_is top m h i = by_bound t i
     where
       by_bound : (u : Option ℕ) → IsBound u top m → is_before n u ≡ nat_lt n top
-      by_bound None i = sym (less n top (omega (arith, h, i)))
+      by_bound None i = sym (lt-ltb n top (omega (arith, h, i)))
       by_bound (Some to) i = ap (nat_lt n) i
 
   turn_given : (top m : ℕ) → n < m → IsBound t top m → from < top → is_given turn_here ≡ (if nat_lt n from then false else nat_lt n top)
   turn_given top m h i l = by_order (order n from)
     where
       by_order : (n < from) ⊎ ((n ≡ from) ⊎ (from < n)) → is_given turn_here ≡ (if nat_lt n from then false else nat_lt n top)
-      by_order (inl o) = skips o ∙ ap (λ (x : Bool). if x then false else nat_lt n top) (sym (less n from o))
-      by_order (inr (inl o)) = begins o ∙ (sym (less n top (omega (arith, o, l))) ∙ ap (λ (x : Bool). if x then false else nat_lt n top) (sym (not_less n from (omega (arith, o)))))
-      by_order (inr (inr o)) = goes_on o ∙ (before_is top m h i ∙ ap (λ (x : Bool). if x then false else nat_lt n top) (sym (not_less n from (omega (arith, o)))))
+      by_order (inl o) = skips o ∙ ap (λ (x : Bool). if x then false else nat_lt n top) (sym (lt-ltb n from o))
+      by_order (inr (inl o)) = begins o ∙ (sym (lt-ltb n top (omega (arith, o, l))) ∙ ap (λ (x : Bool). if x then false else nat_lt n top) (sym (le-ltb n from (omega (arith, o)))))
+      by_order (inr (inr o)) = goes_on o ∙ (before_is top m h i ∙ ap (λ (x : Bool). if x then false else nat_lt n top) (sym (le-ltb n from (omega (arith, o)))))
 
 -- ---- a part of a list
 
@@ -109,32 +102,26 @@ none_left (suc k) (suc m) = refl
 part_on : (from top n : ℕ) (f : Coded) (fs : List Coded) → from < top → given_if (if nat_lt n from then false else nat_lt n top) f (drop (from - (n + 1)) (take (top - (n + 1)) fs)) ≡ drop (from - n) (take (top - n) (f ∷ fs))
 part_on from top n f fs l = by_from (nat_lt n from) refl
   where
-    under : (x y : ℕ) → nat_lt x y ≡ true → x < y
-    under x y h = grind (arith, nat_tests)
-
-    over : (x y : ℕ) → nat_lt x y ≡ false → y ≤ x
-    over x y h = grind (arith, nat_tests)
-
     by_top : (t : Bool) → nat_lt n top ≡ t → from ≤ n → given_if t f (drop (from - (n + 1)) (take (top - (n + 1)) fs)) ≡ drop (from - n) (take (top - n) (f ∷ fs))
     by_top true q h =
-        let g = under n top q in
+        let g = ltb-true n top q in
         let a : from - (n + 1) ≡ 0 = omega (arith, h) in
         let b : from - n ≡ 0 = omega (arith, h) in
         let c : top - n ≡ suc (top - (n + 1)) = omega (arith, g) in
         ap (λ (k : ℕ). f ∷ drop k (take (top - (n + 1)) fs)) a ∙ (ap (λ (k : ℕ). drop 0 (take k (f ∷ fs))) (sym c) ∙ ap (λ (k : ℕ). drop k (take (top - n) (f ∷ fs))) (sym b))
     by_top false q h =
-        let g = over n top q in
+        let g = ltb-false n top q in
         let a : top - (n + 1) ≡ 0 = omega (arith, g) in
         let b : top - n ≡ 0 = omega (arith, g) in
         ap (λ (k : ℕ). drop (from - (n + 1)) (take k fs)) a ∙ (drop_nil (from - (n + 1)) fs ∙ (sym (drop_nil (from - n) (f ∷ fs)) ∙ ap (λ (k : ℕ). drop (from - n) (take k (f ∷ fs))) (sym b)))
 
     by_from : (t : Bool) → nat_lt n from ≡ t → given_if (if t then false else nat_lt n top) f (drop (from - (n + 1)) (take (top - (n + 1)) fs)) ≡ drop (from - n) (take (top - n) (f ∷ fs))
     by_from true q =
-        let g = under n from q in
+        let g = ltb-true n from q in
         let a : from - n ≡ suc (from - (n + 1)) = omega (arith, g) in
         let b : top - n ≡ suc (top - (n + 1)) = omega (arith, g, l) in
         ap (λ (k : ℕ). drop (suc (from - (n + 1))) (take k (f ∷ fs))) (sym b) ∙ ap (λ (k : ℕ). drop k (take (top - n) (f ∷ fs))) (sym a)
-    by_from false q = by_top (nat_lt n top) refl (over n from q)
+    by_from false q = by_top (nat_lt n top) refl (ltb-false n from q)
 
 -- a part by its end
 part_ends : (from to : ℕ) (fs : List Coded) → slice_range fs from to ≡ drop from (take to fs)

@@ -1,5 +1,5 @@
 -- What a run holds behind frames.
-use Rattle.std.proofs.Common.{◌≡◌, ℕ, suc, ◌+◌, List, [], ◌∷◌, ◌++◌, length, map, Option, Some, None, refl, ap, sym, ◌∙◌, arith}
+use Rattle.std.proofs.Common.{◌≡◌, ℕ, ◌+◌, List, [], ◌∷◌, ◌++◌, length, map, refl, ap, sym, ◌∙◌, arith}
 use Rattle.std.proofs.lemmas.List.{append_assoc, append-nil}
 use Rattle.usac_cfg.specs.declared.usac_config.UsacConfig.{UsacConfig}
 use Rattle.usac_frame.specs.Units.{UnitValue}
@@ -13,7 +13,7 @@ use Rattle.splicer.specs.ForeignFound.{last_n-push}
 use Rattle.splicer.specs.Runs.{RunValue, new_run, behind, run_over}
 use Rattle.splicer.specs.Laws.{HoldsLastUnits}
 use Rattle.splicer.proofs.Later.{unit_at, own_units, later}
-use Rattle.splicer.proofs.Pieces.{own_shown}
+use Rattle.splicer.proofs.Coding.{own_shown}
 
 -- behind later frames
 run_later : (a : Asked) (c : UsacConfig) (n : ℕ) (us : List UnitValue) (fs : List Coded) → run_over (later a c n (last_n 18 us)) fs ≡ later a c (n + length fs) (last_n 18 (us ++ own_units fs))

@@ -1,9 +1,9 @@
 -- A frame breaks no rule of a join exactly where it may be joined, by all units of its stream.
-use Rattle.std.proofs.Common.{◌≡◌, ◌≢◌, ℕ, ◌≤◌, Bool, true, false, List, [], ◌∷◌, ◌++◌, length, Option, Some, None, Result, Ok, Err, refl, ap, sym, ◌∙◌, arith}
+use Rattle.std.proofs.Common.{◌≡◌, ℕ, ◌≤◌, Bool, true, false, List, ◌++◌, length, Option, Some, None, Result, Ok, Err, refl, ap, sym, ◌∙◌, arith}
 use Rattle.std.specs.Prelude.{nat_lt, if◌then◌else◌}
 use Rattle.std.specs.Option.{option_map_or}
 use Rattle.std.proofs.lemmas.List.{length-map}
-use Rattle.std.proofs.lemmas.Bool.Decides.{nat_tests}
+use Rattle.std.proofs.lemmas.Bool.{ltb-false, le-ltb}
 use Rattle.usac_cfg.specs.declared.usac_config.UsacConfig.{UsacConfig}
 use Rattle.usac_cfg.specs.UsacConfig.{IsWellFormed}
 use Rattle.usac_cfg.specs.Same.{same}
@@ -79,12 +79,6 @@ foreign_none : (n : ℕ) (k : Option ℕ) → foreign_rule n k ≡ None → k �
 foreign_none n None e = refl
 foreign_none n (Some k) e = absurd (some_not_none _ e)
 
-at_least : (m n : ℕ) → nat_lt m n ≡ false → n ≤ m
-at_least m n e = grind (arith, nat_tests)
-
-not_less : (m n : ℕ) → n ≤ m → nat_lt m n ≡ false
-not_less m n h = grind (arith, nat_tests)
-
 pub rule_joins : (b : Option UsacConfig) (n need : ℕ) (us : List UnitValue) (c : UsacConfig) (x : Result Carried CarryFault) → join_rule b n need us c x ≡ None → Joins b need us c x
 rule_joins b n need us c ks e = by_before (is_before b c) refl (ap (λ (x : Option SpliceFault). or_then x (carried_rule n need us ks)) (sym (other_is b n c)) ∙ e)
   where
@@ -92,7 +86,7 @@ rule_joins b n need us c ks e = by_before (is_before b c) refl (ap (λ (x : Opti
     by_few k o true q e = absurd (some_not_none _ e)
     by_few k o false q e =
         let w = (decided_by_last.none us k.units).0 (foreign_none n (foreign us k.units) e) in
-        record { other = o; units = k; carries = refl; enough = at_least (length k.units) need q; front = w.0; own = w.1 }
+        record { other = o; units = k; carries = refl; enough = ltb-false (length k.units) need q; front = w.0; own = w.1 }
 
     by_carried : (x : Result Carried CarryFault) → is_before b c ≡ false → carried_rule n need us x ≡ None → Joins b need us c x
     by_carried (Err x) o e = absurd (some_not_none _ e)
@@ -105,7 +99,7 @@ rule_joins b n need us c ks e = by_before (is_before b c) refl (ap (λ (x : Opti
 pub joins_rule : (b : Option UsacConfig) (n need : ℕ) (us : List UnitValue) (c : UsacConfig) (x : Result Carried CarryFault) → Joins b need us c x → join_rule b n need us c x ≡ None
 joins_rule b n need us c ks j =
     let k = j.units in
-    let few = not_less (length k.units) need j.enough in
+    let few = le-ltb (length k.units) need j.enough in
     ap (λ (x : Option SpliceFault). or_then x (carried_rule n need us ks)) (other_is b n c ∙ ap (λ (t : Bool). if t then Some (SameConfig n) else None) j.other)
     ∙ (ap (carried_rule n need us) j.carries
     ∙ (ap (λ t. if t then Some (TooFew n (length k.units) need) else foreign_rule n (foreign us k.units)) few

@@ -18,7 +18,7 @@ use Rattle.splicer.specs.declared.fault.SpliceFault.TheVariants.{ConfigChanges}
 use Rattle.splicer.specs.Foreign.{last_n}
 use Rattle.splicer.specs.ForeignFound.{last_n-push}
 use Rattle.splicer.specs.Rules.{or_then, fault_if_not, short_rule, join_rule, from_of}
-use Rattle.splicer.specs.Runs.{RunValue, fault, behind, run_over, end, piece_of}
+use Rattle.splicer.specs.Runs.{RunValue, fault, run_over, end, piece_of}
 use Rattle.splicer.specs.Pieces.{fault_over}
 use Rattle.splicer.proofs.Joining.{Joins, rule_joins, joins_rule, rule_by_last, few_carried, or_first, or_second, or_both, some_not_none}
 

@@ -1,6 +1,6 @@
 -- Runs over streams, one after another, give the parts of a sound plan, and of no other.
-use Rattle.std.proofs.Common.{◌≡◌, ℕ, ◌+◌, ◌<◌, List, [], ◌∷◌, length, Option, Some, None, refl, subst, arith}
-use Rattle.std.specs.Prelude.{◌↔◌, All}
+use Rattle.std.proofs.Common.{ℕ, ◌+◌, List, [], ◌∷◌, Some, None, arith}
+use Rattle.std.specs.Prelude.{All}
 use Rattle.std.specs.List.Sorted.{IsStrictlyIncreasing}
 use Rattle.std.proofs.lemmas.List.Elements.{All-head, All-tail}
 use Rattle.layout.specs.Layout.{FitsOption}
@@ -12,16 +12,16 @@ use Rattle.timeline.proofs.Timed.{rises_first, rises_rest}
 use Rattle.plans.specs.Coded.{Coded}
 use Rattle.plans.specs.WholeStream.{IsWholeStream, stream_config}
 use Rattle.plans.specs.Parts.{Part, IsPart}
-use Rattle.plans.specs.SoundPlan.{BeginsWarm, AreJoined, IsSoundPlan}
-use Rattle.splicer.specs.Pieces.{GivesPiece, GoesOnFrom, IsSoundPiece, Rises, asked, GiveParts, AreTimedBy}
+use Rattle.plans.specs.SoundPlan.{AreJoined, IsSoundPlan}
+use Rattle.splicer.specs.Pieces.{IsSoundPiece, Rises, asked, GiveParts, AreTimedBy}
 use Rattle.splicer.specs.Laws.{GiveSoundPlans}
 use Rattle.splicer.proofs.Later.{AreWell}
 use Rattle.splicer.proofs.Pieces.{gives_sound_pieces}
 
 -- the next position is larger
-rises_next : (k at : ℕ) (ats : List ℕ) (before : Option UsacConfig) → IsStrictlyIncreasing (at ∷ ats) → Rises (asked k at (first_position ats) before) (first_position ats)
-rises_next k at [] before r = tt
-rises_next k at (next ∷ ats) before r = rises_first at next ats r
+rises_next : (at : ℕ) (ats : List ℕ) → IsStrictlyIncreasing (at ∷ ats) → Rises at (first_position ats)
+rises_next at [] r = tt
+rises_next at (next ∷ ats) r = rises_first at next ats r
 
 rises_later : (at : ℕ) (ats : List ℕ) → IsStrictlyIncreasing (at ∷ ats) → IsStrictlyIncreasing ats
 rises_later at [] r = λ i k. absurd (omega (arith, k))
@@ -44,7 +44,7 @@ module _ (warm : UsacConfig → ℕ) where
   joined_parts k (f ∷ fs) (at ∷ ats) (p ∷ ps) s w r all g =
       let well = All-head (λ (q : Part). AreWell q.stream) p ps all in
       let a = asked k at (first_position ats) (Some f.config) in
-      let one = (gives_sound_pieces warm a p.stream (record { from = p.from; to = p.to }) (well_config (f ∷ fs) w) (rises_next k at ats (Some f.config) r) well).0 g.0 in
+      let one = (gives_sound_pieces warm a p.stream (record { from = p.from; to = p.to }) (well_config (f ∷ fs) w) (rises_next at ats r) well).0 g.0 in
       let more = joined_parts (k + 1) p.stream ats ps one.part.stream well (rises_later at ats r) (All-tail (λ (q : Part). AreWell q.stream) p ps all) g.1 in
       ((one.part, one.sound.0, one.sound.1, more.0), (one.timed.begins, one.timed.ends, more.1))
 
@@ -59,7 +59,7 @@ module _ (warm : UsacConfig → ℕ) where
       let a = asked k at (first_position ats) (Some f.config) in
       let piece : Piece = record { from = p.from; to = p.to } in
       let sound : IsSoundPiece warm a p.stream piece = record { part = j.0; timed = record { begins = t.0; ends = t.1 }; sound = (j.1, j.2) } in (
-        (gives_sound_pieces warm a p.stream piece (well_config (f ∷ fs) w) (rises_next k at ats (Some f.config) r) well).1 sound,
+        (gives_sound_pieces warm a p.stream piece (well_config (f ∷ fs) w) (rises_next at ats r) well).1 sound,
         parts_joined (k + 1) p.stream ats ps (let whole : IsPart p = j.0 in whole.stream) well (rises_later at ats r) (All-tail (λ (q : Part). AreWell q.stream) p ps all) j.3 t.2,
       )
 
@@ -69,7 +69,7 @@ module _ (warm : UsacConfig → ℕ) where
   planned (at ∷ ats) [] r all g = absurd g
   planned (at ∷ ats) (p ∷ ps) r all g =
       let well = All-head (λ (q : Part). AreWell q.stream) p ps all in
-      let one = (gives_sound_pieces warm (asked 0 at (first_position ats) None) p.stream (record { from = p.from; to = p.to }) tt (rises_next 0 at ats None r) well).0 g.0 in
+      let one = (gives_sound_pieces warm (asked 0 at (first_position ats) None) p.stream (record { from = p.from; to = p.to }) tt (rises_next at ats r) well).0 g.0 in
       let more = joined_parts 1 p.stream ats ps one.part.stream well (rises_later at ats r) (All-tail (λ (q : Part). AreWell q.stream) p ps all) g.1 in
       ((one.part, one.sound, more.0), (one.timed.begins, one.timed.ends, more.1))
 
@@ -82,7 +82,7 @@ module _ (warm : UsacConfig → ℕ) where
       let a = asked 0 at (first_position ats) None in
       let piece : Piece = record { from = p.from; to = p.to } in
       let sound : IsSoundPiece warm a p.stream piece = record { part = s.0; timed = record { begins = t.0; ends = t.1 }; sound = s.1 } in (
-        (gives_sound_pieces warm a p.stream piece tt (rises_next 0 at ats None r) well).1 sound,
+        (gives_sound_pieces warm a p.stream piece tt (rises_next at ats r) well).1 sound,
         parts_joined 1 p.stream ats ps (let whole : IsPart p = s.0 in whole.stream) well (rises_later at ats r) (All-tail (λ (q : Part). AreWell q.stream) p ps all) s.2 t.2,
       )
 

@@ -1,5 +1,5 @@
 -- Rules one behind another, and what follows of a refusal.
-use Rattle.std.proofs.Common.{◌≡◌, ℕ, zero, suc, ◌<◌, true, false, List, Option, Some, None, Result, Ok, Err, refl, ap, subst, ◌∙◌, arith}
+use Rattle.std.proofs.Common.{◌≡◌, ℕ, zero, suc, ◌<◌, true, false, List, Option, Some, None, Err, refl, ap, subst, ◌∙◌, arith}
 use Rattle.usac_cfg.specs.declared.usac_config.UsacConfig.{UsacConfig}
 use Rattle.usac_cfg.specs.UsacConfig.{IsWellFormed, is_frame, shape_at, frame_length}
 use Rattle.layout.specs.Text.{bits_of}
@@ -12,7 +12,7 @@ use Rattle.preroll.specs.declared.fault.CarryFault.{CarryFault}
 use Rattle.preroll.specs.declared.fault.CarryFault.TheVariants as carries
 use Rattle.preroll.specs.Faults.{is_carry_memory}
 use Rattle.preroll.specs.Carried.{IsFirst}
-use Rattle.preroll.specs.Carrying.{Carried, short_at, carried_of}
+use Rattle.preroll.specs.Carrying.{short_at, carried_of}
 use Rattle.preroll.proofs.Judging.{carried_is}
 use Rattle.plans.specs.Coded.{Coded}
 use Rattle.splicer.specs.declared.fault.SpliceFault.{SpliceFault}
@@ -20,7 +20,7 @@ use Rattle.splicer.specs.declared.fault.SpliceFault.TheVariants.{Plan, ConfigCha
 use Rattle.splicer.specs.Faults.{of_frame, of_carry}
 use Rattle.splicer.specs.Rules.{or_then, short_rule, carry_rule}
 use Rattle.splicer.specs.Runs.{RunValue, fault, ended_run}
-use Rattle.splicer.specs.Checks.{IsRefused, Checks}
+use Rattle.splicer.specs.Checks.{Checks}
 use Rattle.splicer.specs.Steps.{IfRule}
 use Rattle.splicer.specs.SeenFound.{is_short}
 

@@ -1,5 +1,5 @@
 -- What a check of a frame answers and leaves.
-use Rattle.std.specs.Prelude.{◌≡◌, ℕ, Bool, true, false, Option, Some, None, Result, Ok, Err}
+use Rattle.std.specs.Prelude.{◌≡◌, ℕ, true, false, Some, None, Result, Ok, Err}
 use Rattle.plans.specs.Coded.{Coded}
 use Rattle.splicer.specs.declared.turn.Turn.{Turn}
 use Rattle.splicer.specs.declared.fault.SpliceFault.{SpliceFault}

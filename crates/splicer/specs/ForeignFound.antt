@@ -1,8 +1,9 @@
 -- The last units of a stream decide which carried unit is foreign, as all of them do.
-use Rattle.std.proofs.Common.{◌≡◌, ℕ, zero, suc, ◌+◌, ◌-◌, ◌≤◌, ◌<◌, List, [], ◌∷◌, ◌++◌, length, take, drop, Option, Some, None, Bool, true, false, refl, ap, sym, ◌∙◌, arith, ◌⊎◌, inl, inr}
+use Rattle.std.proofs.Common.{◌≡◌, ℕ, zero, suc, ◌+◌, ◌-◌, ◌≤◌, List, [], ◌∷◌, ◌++◌, length, take, drop, Some, None, Bool, true, false, refl, ap, sym, ◌∙◌, arith}
 use Rattle.std.specs.Prelude.{◌&&◌, ◌↔◌, IsTrue, nat_lt, if◌then◌else◌}
-use Rattle.std.proofs.lemmas.List.{append_assoc, take-append-drop, length-drop, length-append}
+use Rattle.std.proofs.lemmas.List.{take-append-drop, length-drop, length-append}
 use Rattle.std.proofs.lemmas.Grind.{common_steps}
+use Rattle.std.proofs.lemmas.Bool.{ltb-false, le-ltb}
 use Rattle.std.proofs.lemmas.Bool.Decides.{nat_tests}
 use Rattle.usac_cfg.specs.Same.{same_bit, same_bits}
 use Rattle.usac_frame.specs.Units.{UnitValue}
@@ -65,15 +66,6 @@ drop_drop zero (suc m) [] = let e : suc m + 0 ≡ suc m = omega arith in rw e re
 drop_drop (suc n) (suc m) [] = let e : suc m + suc n ≡ suc (m + suc n) = omega arith in rw e refl
 drop_drop n (suc m) (x ∷ l) = let e : suc m + n ≡ suc (m + n) = omega arith in rw e (drop_drop n m l)
 
-not_less : (m n : ℕ) → nat_lt m n ≡ false → n ≤ m
-not_less m n e = grind (arith, nat_tests)
-
-less : (m n : ℕ) → nat_lt m n ≡ true → m < n
-less m n e = grind (arith, nat_tests)
-
-is_not_less : (m n : ℕ) → n ≤ m → nat_lt m n ≡ false
-is_not_less m n h = grind (arith, nat_tests)
-
 -- for no more carried units than are kept, what is kept decides as all do
 pub foreign_by_last : (n : ℕ) (before carried : List UnitValue) → length carried ≤ n → foreign (last_n n before) carried ≡ foreign before carried
 foreign_by_last w before ks h =
@@ -89,7 +81,7 @@ foreign_by_last w before ks h =
         → (if b then Some 0 else first_different 0 ks (drop (length (last_n w before) - length ks) (last_n w before))) ≡ (if b then Some 0 else first_different 0 ks (drop (length before - length ks) before))
     by_test true e = refl
     by_test false e =
-        let le : length ks ≤ length before = not_less (length before) (length ks) e in
+        let le : length ks ≤ length before = ltb-false (length before) (length ks) e in
         let long = length-drop (length before - w) before in
         let n : (length before - w) + (length (last_n w before) - length ks) ≡ length before - length ks = omega (arith, long) in
         ap (first_different 0 ks) (drop_drop (length (last_n w before) - length ks) (length before - w) before ∙ ap (λ m. drop m before) n)
@@ -120,7 +112,7 @@ ends_with before ks e = by_test (nat_lt (length before) (length ks)) refl e
     by_test : (b : Bool) → nat_lt (length before) (length ks) ≡ b → (if b then Some 0 else first_different 0 ks (drop (length before - length ks) before)) ≡ None → (front : List UnitValue) × (before ≡ front ++ ks)
     by_test true t e = absurd (let f : Some 0 ≡ None = e in cc)
     by_test false t e =
-        let le = not_less (length before) (length ks) t in
+        let le = ltb-false (length before) (length ks) t in
         let long = length-drop (length before - length ks) before in
         let q : ks ≡ drop (length before - length ks) before = none_different 0 ks (drop (length before - length ks) before) (omega (arith, long)) e in
         (take (length before - length ks) before, sym (take-append-drop (length before - length ks) before) ∙ ap (λ us. take (length before - length ks) before ++ us) (sym q))
@@ -131,7 +123,7 @@ drop_front front carried = grind (arith, common_steps)
 none_foreign : (front carried : List UnitValue) → foreign (front ++ carried) carried ≡ None
 none_foreign front ks =
     let long = length-append front ks in
-    let test : nat_lt (length (front ++ ks)) (length ks) ≡ false = is_not_less (length (front ++ ks)) (length ks) (omega (arith, long)) in
+    let test : nat_lt (length (front ++ ks)) (length ks) ≡ false = le-ltb (length (front ++ ks)) (length ks) (omega (arith, long)) in
     ap (λ b. if b then Some 0 else first_different 0 ks (drop (length (front ++ ks) - length ks) (front ++ ks))) test
     ∙ (ap (first_different 0 ks) (drop_front front ks) ∙ same_different 0 ks)
 

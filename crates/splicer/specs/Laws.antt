@@ -1,5 +1,5 @@
 -- What is true of the check of a rendition.
-use Rattle.std.specs.Prelude.{◌≡◌, ◌↔◌, ℕ, List, [], ◌∷◌, ◌++◌, length, map, Option, Some, None, All}
+use Rattle.std.specs.Prelude.{◌≡◌, ◌↔◌, ℕ, List, ◌++◌, length, map, None, All}
 use Rattle.std.specs.List.Sorted.{IsStrictlyIncreasing}
 use Rattle.layout.specs.Layout.{FitsOption}
 use Rattle.usac_cfg.specs.declared.usac_config.UsacConfig.{UsacConfig}
@@ -26,7 +26,7 @@ pub record HoldsLastUnits : Type 0 where
 -- A run refuses no frame of a rendition, and gives a piece of it, exactly where that is a sound piece of a whole stream. It holds for
 -- each warm-up, whatever the core.
 abbrev pub GivesSoundPieces : Type 0
-GivesSoundPieces = (warm : UsacConfig → ℕ) (a : Asked) (fs : List Coded) (p : Piece) → FitsOption IsWellFormed a.before → Rises a a.until → All (λ f. IsWellFormed f.config) fs
+GivesSoundPieces = (warm : UsacConfig → ℕ) (a : Asked) (fs : List Coded) (p : Piece) → FitsOption IsWellFormed a.before → Rises a.position a.until → All (λ f. IsWellFormed f.config) fs
     → GivesPiece warm a fs p ↔ IsSoundPiece warm a fs p
 
 -- Runs over streams, one after another, refuse nothing and give these parts, exactly where the parts are a sound plan that is timed by
@@ -37,5 +37,5 @@ GiveSoundPlans = (warm : UsacConfig → ℕ) (positions : List ℕ) (parts : Lis
 
 -- The frames that a run says are of the piece are those of the piece that it gives, in order.
 abbrev pub GivesFrames : Type 0
-GivesFrames = (warm : UsacConfig → ℕ) (a : Asked) (fs : List Coded) (p : Piece) → FitsOption IsWellFormed a.before → Rises a a.until → All (λ f. IsWellFormed f.config) fs
+GivesFrames = (warm : UsacConfig → ℕ) (a : Asked) (fs : List Coded) (p : Piece) → FitsOption IsWellFormed a.before → Rises a.position a.until → All (λ f. IsWellFormed f.config) fs
     → GivesPiece warm a fs p → given (new_run a) fs ≡ part_frames (part_of fs p)

@@ -1,5 +1,5 @@
 -- Renditions as they are read: when no rule is broken, and what a plan of whole streams says of a piece.
-use Rattle.std.specs.Prelude.{◌≡◌, ◌⊎◌, ℕ, ◌+◌, ◌*◌, ◌<◌, Bool, true, false, List, [], ◌∷◌, length, Option, Some, None, Result, Ok, if◌then◌else◌}
+use Rattle.std.specs.Prelude.{◌≡◌, ◌⊎◌, ℕ, ◌+◌, ◌*◌, ◌<◌, Bool, true, false, List, [], ◌∷◌, length, Option, Some, None, Ok, if◌then◌else◌}
 use Rattle.usac_cfg.specs.declared.usac_config.UsacConfig.{UsacConfig}
 use Rattle.usac_cfg.specs.UsacConfig.{frame_length}
 use Rattle.timeline.specs.declared.piece.Piece.{Piece}
@@ -59,9 +59,9 @@ pub record IsSoundPiece (warm : UsacConfig → ℕ) (a : Asked) (fs : List Coded
   pub sound : GoesOnFrom warm a.before (part_of fs p)
 
 -- the next position, where there is one, is larger
-abbrev pub Rises : Asked → Option ℕ → Type 0
-Rises a None = Unit {0}
-Rises a (Some until) = a.position < until
+abbrev pub Rises : ℕ → Option ℕ → Type 0
+Rises at None = Unit {0}
+Rises at (Some until) = at < until
 
 -- ---- renditions one after another
 

@@ -1,5 +1,5 @@
 -- Why a frame of a rendition is refused: the first rule that it breaks. That the rules go in this order is this project's own.
-use Rattle.std.specs.Prelude.{◌≡◌, ℕ, ◌/◌, List, [], length, Option, Some, None, Result, Ok, Err, Bool, true, false, ◌&&◌, ◌==◌, nat_lt, is_some, if◌then◌else◌}
+use Rattle.std.specs.Prelude.{ℕ, ◌/◌, List, length, Option, Some, None, Result, Ok, Err, Bool, true, false, ◌&&◌, ◌==◌, nat_lt, is_some, if◌then◌else◌}
 use Rattle.usac_cfg.specs.declared.usac_config.UsacConfig.{UsacConfig}
 use Rattle.usac_cfg.specs.UsacConfig.{rate, channels, frame_length}
 use Rattle.usac_cfg.specs.Same.{same}

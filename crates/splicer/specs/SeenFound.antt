@@ -1,6 +1,6 @@
 -- What the rules see of an access unit that is a frame, and of one that is none.
-use Rattle.std.proofs.Common.{◌≡◌, ℕ, true, List, Option, Some, None, refl, ap, arith}
-use Rattle.std.specs.Prelude.{Bool, ◌==◌, Result, Err, if◌then◌else◌}
+use Rattle.std.proofs.Common.{◌≡◌, ℕ, true, List, Option, Some, None, refl, ap}
+use Rattle.std.specs.Prelude.{Bool, ◌==◌, Err, if◌then◌else◌}
 use Rattle.std.specs.Option.{option_map_or}
 use Rattle.layout.specs.Text.{bits_of}
 use Rattle.layout.proofs.Whole.{fault_of_is}

@@ -1,5 +1,5 @@
 -- What becomes of a frame that breaks no rule.
-use Rattle.std.specs.Prelude.{ℕ, ◌/◌, List, length, Option, Some, None, Bool, true, false, ◌&&◌, ◌==◌, nat_lt, is_none, if◌then◌else◌}
+use Rattle.std.specs.Prelude.{ℕ, ◌/◌, List, length, Option, Some, None, Bool, true, ◌&&◌, ◌==◌, nat_lt, is_none, if◌then◌else◌}
 use Rattle.usac_cfg.specs.declared.usac_config.UsacConfig.{UsacConfig}
 use Rattle.usac_cfg.specs.UsacConfig.{frame_length}
 use Rattle.usac_frame.specs.Units.{UnitValue}

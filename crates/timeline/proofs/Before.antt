@@ -1,5 +1,5 @@
 -- Pieces before those of a result.
-use Rattle.std.proofs.Common.{◌≡◌, ◌<◌, length, ℕ, suc, ◌+◌, List, [], ◌∷◌, ◌++◌, drop, get_or, Option, Some, None, Result, Ok, Err, refl, ap, sym, ◌∙◌, drop-cons, arith}
+use Rattle.std.proofs.Common.{◌≡◌, ◌<◌, length, ℕ, suc, ◌+◌, List, [], ◌∷◌, ◌++◌, drop, get_or, Option, Some, Result, Ok, Err, refl, ap, sym, ◌∙◌, drop-cons, arith}
 use Rattle.std.proofs.lemmas.List.{append_assoc}
 use Rattle.timeline.specs.declared.shape.Shape.{Shape}
 use Rattle.timeline.specs.declared.piece.Piece.{Piece}

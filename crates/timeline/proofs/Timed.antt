@@ -1,17 +1,15 @@
 -- Positions that rise, and pieces on the timeline.
 use Rattle.std.proofs.Common.{◌≡◌, ℕ, zero, suc, ◌+◌, ◌-◌, ◌*◌, ◌/◌, ◌%◌, ◌<◌, ◌≤◌, Bool, true, false, List, [], ◌∷◌, length, take, Option, Some, None, Result, Ok, Err, refl, ap, sym, subst, ◌∙◌, arith}
-use Rattle.std.specs.Prelude.{◌↔◌, nat_lt, ◌==◌, slice_index, unwrap_or, if◌then◌else◌}
+use Rattle.std.specs.Prelude.{◌↔◌, nat_lt, ◌==◌, slice_index, if◌then◌else◌}
 use Rattle.std.specs.List.Sorted.{IsStrictlyIncreasing}
-use Rattle.std.proofs.lemmas.Bool.{eqb-true, eq-eqb}
-use Rattle.std.proofs.lemmas.Bool.Decides.{nat_tests}
-use Rattle.std.proofs.Math.Nat.{mul-div_cancel}
+use Rattle.std.proofs.lemmas.Bool.{eqb-true, eq-eqb, ltb-true, ltb-false, lt-ltb, le-ltb}
+use Rattle.std.proofs.Math.Nat.{mul-div_cancel, mul-mod_left}
 use Rattle.timeline.specs.declared.shape.Shape.{Shape}
 use Rattle.timeline.specs.declared.piece.Piece.{Piece}
-use Rattle.timeline.specs.declared.piece.PieceBounds.{PieceBounds}
 use Rattle.timeline.specs.declared.fault.PlanFault.{PlanFault}
 use Rattle.timeline.specs.declared.fault.PlanFault.TheVariants.{BadOrder, NoFrameAt, RateDiffers, ChannelsDiffer, PastEnd}
 use Rattle.timeline.specs.Order.{order_from, order_result}
-use Rattle.timeline.specs.Bounds.{bounds_until, bounds_result}
+use Rattle.timeline.specs.Bounds.{bounds_until}
 use Rattle.timeline.specs.Plan.{piece_within, piece_in, placed, piece_result, first_position, with_pieces, and_then, plan_from, where_ordered, plan_result}
 use Rattle.timeline.specs.Laws.{IsFirstFall, JudgesOrder, EndsAt, IsTimed, GoesOn, AreTimed, PlansTimed}
 
@@ -20,18 +18,6 @@ err_ok e x h = cc
 
 ok_err : {X E : Type 0} (e : E) (x : X) → (let r : Result X E = Ok x in r) ≡ Err e → ⊥
 ok_err e x h = cc
-
-is_less : (x y : ℕ) → nat_lt x y ≡ true → x < y
-is_less x y h = grind (arith, nat_tests)
-
-at_most : (x y : ℕ) → nat_lt x y ≡ false → y ≤ x
-at_most x y h = grind (arith, nat_tests)
-
-less : (x y : ℕ) → x < y → nat_lt x y ≡ true
-less x y h = grind (arith, nat_tests)
-
-not_less : (x y : ℕ) → y ≤ x → nat_lt x y ≡ false
-not_less x y h = grind (arith, nat_tests)
 
 -- ---- positions that rise
 
@@ -58,13 +44,13 @@ order_rises n a [] e = λ i k. absurd (omega (arith, k))
 order_rises n a (b ∷ xs) e = by_test (nat_lt a b) refl e (order_rises (n + 1) b xs)
   where
     by_test : (t : Bool) → nat_lt a b ≡ t → (if t then order_from (n + 1) b xs else Err (BadOrder n)) ≡ Ok tt → (order_from (n + 1) b xs ≡ Ok tt → IsStrictlyIncreasing (b ∷ xs)) → IsStrictlyIncreasing (a ∷ b ∷ xs)
-    by_test true q h more = rises_on a b xs (is_less a b q) (more h)
+    by_test true q h more = rises_on a b xs (ltb-true a b q) (more h)
     by_test false q h more = absurd (err_ok (BadOrder n) tt h)
 
 rises_order : (n a : ℕ) (xs : List ℕ) → IsStrictlyIncreasing (a ∷ xs) → order_from n a xs ≡ Ok tt
 rises_order n a [] r = refl
 rises_order n a (b ∷ xs) r =
-    ap (λ (t : Bool). if t then order_from (n + 1) b xs else Err (BadOrder n)) (less a b (rises_first a b xs r)) ∙ rises_order (n + 1) b xs (rises_rest a b xs r)
+    ap (λ (t : Bool). if t then order_from (n + 1) b xs else Err (BadOrder n)) (lt-ltb a b (rises_first a b xs r)) ∙ rises_order (n + 1) b xs (rises_rest a b xs r)
 
 bad_is : (m n : ℕ) → (let r : Result (Unit {0}) PlanFault = Err (BadOrder m) in r) ≡ Err (BadOrder n) → m ≡ n
 bad_is m n e = cc
@@ -88,13 +74,13 @@ order_falls n a (b ∷ xs) k e = by_test (nat_lt a b) refl e (order_falls (n + 1
           is = omega (arith, f.is);
           within = omega (arith, f.within);
           falls = f.falls;
-          before = rises_on a b (take f.place xs) (is_less a b q) f.before;
+          before = rises_on a b (take f.place xs) (ltb-true a b q) f.before;
         }
     by_test false q h more = record {
       place = 0;
       is = let e = bad_is n k h in omega (arith, e);
       within = omega arith;
-      falls = at_most a b q;
+      falls = ltb-false a b q;
       before = λ i k. absurd (omega (arith, k));
     }
 
@@ -102,10 +88,10 @@ first_fall : (a : ℕ) (xs : List ℕ) (k : ℕ) → FallsAt 1 a xs k → IsFirs
 first_fall a xs k f =
     let e : suc f.place ≡ k = omega (arith, f.is) in
     let here : IsFirstFall (a ∷ xs) (suc f.place) = record {
-        some = omega arith;
-        within = omega (arith, f.within);
-        falls = let m : suc f.place - 1 ≡ f.place = omega arith in let P : ℕ → Type 0 = λ j. slice_index xs f.place ≤ slice_index (a ∷ xs) j in subst P (sym m) f.falls;
-        before = f.before;
+      some = omega arith;
+      within = omega (arith, f.within);
+      falls = let m : suc f.place - 1 ≡ f.place = omega arith in let P : ℕ → Type 0 = λ j. slice_index xs f.place ≤ slice_index (a ∷ xs) j in subst P (sym m) f.falls;
+      before = f.before;
     } in
     subst (IsFirstFall (a ∷ xs)) e here
 
@@ -125,11 +111,8 @@ judges_order = record { rises = rises; falls = falls }
 
 -- ---- pieces on the timeline
 
-times : (x n : ℕ) → 0 < n → x % n ≡ 0 → x / n * n ≡ x
+pub times : (x n : ℕ) → 0 < n → x % n ≡ 0 → x / n * n ≡ x
 times x n h e = omega (arith, h, e)
-
-no_rest : (q n : ℕ) → 0 < n → (q * n) % n ≡ 0
-no_rest q n h = let e : q * n / n ≡ q = mul-div_cancel q h in let p : q * n / n * n ≡ q * n = ap (λ x. x * n) e in omega (arith, h, p)
 
 piece_is : (p q : Piece) → (let r : Result Piece PlanFault = Ok p in r) ≡ Ok q → p ≡ q
 piece_is p q e = cc
@@ -141,16 +124,16 @@ within_timed k n from to p e = by_from (nat_lt from n) refl e
     by_to true q l h = absurd (err_ok (PastEnd k) p h)
     by_to false q l h =
         let is : (let x : Piece = record { from = from; to = to } in x) ≡ p = piece_is _ p h in
-        (sym (ap (λ (x : Piece). x.from) is), sym (ap (λ (x : Piece). x.to) is), l, at_most n to q)
+        (sym (ap (λ (x : Piece). x.from) is), sym (ap (λ (x : Piece). x.to) is), l, ltb-false n to q)
 
     by_from : (t : Bool) → nat_lt from n ≡ t → (if t then (if nat_lt n to then Err (PastEnd k) else Ok (record { from = from; to = to })) else Err (PastEnd k)) ≡ Ok p → (p.from ≡ from) × (p.to ≡ to) × (from < n) × (to ≤ n)
-    by_from true q h = by_to (nat_lt n to) refl (is_less from n q) h
+    by_from true q h = by_to (nat_lt n to) refl (ltb-true from n q) h
     by_from false q h = absurd (err_ok (PastEnd k) p h)
 
 timed_within : (k n from to : ℕ) → from < n → to ≤ n → piece_within k n from to ≡ Ok (record { from = from; to = to })
 timed_within k n from to l h =
-    ap (λ (t : Bool). if t then (if nat_lt n to then Err (PastEnd k) else Ok (record { from = from; to = to })) else Err (PastEnd k)) (less from n l)
-    ∙ ap (λ (t : Bool). if t then Err (PastEnd k) else Ok (record { from = from; to = to })) (not_less n to h)
+    ap (λ (t : Bool). if t then (if nat_lt n to then Err (PastEnd k) else Ok (record { from = from; to = to })) else Err (PastEnd k)) (lt-ltb from n l)
+    ∙ ap (λ (t : Bool). if t then Err (PastEnd k) else Ok (record { from = from; to = to })) (le-ltb n to h)
 
 placed_timed : (k : ℕ) (s : Shape) (at : ℕ) (u : Option ℕ) (p : Piece) → placed k s at u ≡ Ok p → IsTimed s at u p
 placed_timed k s at u p e = by_at (at % s.frame_length == 0) refl e
@@ -173,7 +156,7 @@ placed_timed k s at u p e = by_at (at % s.frame_length == 0) refl e
 
 timed_placed : (k : ℕ) (s : Shape) (at : ℕ) (u : Option ℕ) (p : Piece) → IsTimed s at u p → placed k s at u ≡ Ok p
 timed_placed k s at u p h =
-    ap (λ (t : Bool). piece_in k s.frames (if t then bounds_until k s.frame_length (at / s.frame_length) u else Err (NoFrameAt k at))) (eq-eqb (at % s.frame_length) 0 (ap (λ (n : ℕ). n % s.frame_length) (sym h.begins) ∙ no_rest p.from s.frame_length s.some))
+    ap (λ (t : Bool). piece_in k s.frames (if t then bounds_until k s.frame_length (at / s.frame_length) u else Err (NoFrameAt k at))) (eq-eqb (at % s.frame_length) 0 (ap (λ (n : ℕ). n % s.frame_length) (sym h.begins) ∙ mul-mod_left p.from s.frame_length))
     ∙ by_end u h.ends
   where
     from_is : at / s.frame_length ≡ p.from
@@ -187,7 +170,7 @@ timed_placed k s at u p h =
     by_end : (v : Option ℕ) → EndsAt s v p → piece_in k s.frames (bounds_until k s.frame_length (at / s.frame_length) v) ≡ Ok p
     by_end None e = found s.frames (sym e)
     by_end (Some until) e =
-        ap (λ (t : Bool). piece_in k s.frames (if t then Ok (record { from = at / s.frame_length; to = Some (until / s.frame_length) }) else Err (NoFrameAt k until))) (eq-eqb (until % s.frame_length) 0 (ap (λ (n : ℕ). n % s.frame_length) (sym e) ∙ no_rest p.to s.frame_length s.some))
+        ap (λ (t : Bool). piece_in k s.frames (if t then Ok (record { from = at / s.frame_length; to = Some (until / s.frame_length) }) else Err (NoFrameAt k until))) (eq-eqb (until % s.frame_length) 0 (ap (λ (n : ℕ). n % s.frame_length) (sym e) ∙ mul-mod_left p.to s.frame_length))
         ∙ found (until / s.frame_length) (ap (λ (n : ℕ). n / s.frame_length) (sym e) ∙ mul-div_cancel p.to s.some)
 
 result_timed : (k : ℕ) (b : Option Shape) (s : Shape) (at : ℕ) (u : Option ℕ) (p : Piece) → piece_result k b s at u ≡ Ok p → GoesOn b s × IsTimed s at u p

@@ -1,5 +1,5 @@
 -- The pieces of a plan, or the first rule that its positions and its streams break.
-use Rattle.std.specs.Prelude.{◌≡◌, ℕ, ◌+◌, ◌<◌, List, [], ◌∷◌, Option, Some, None, Result, Ok, Err, drop, unwrap_or, nat_lt, ◌==◌, if◌then◌else◌}
+use Rattle.std.specs.Prelude.{◌≡◌, ℕ, ◌+◌, List, [], ◌∷◌, Option, Some, None, Result, Ok, Err, drop, unwrap_or, nat_lt, ◌==◌, if◌then◌else◌}
 use Rattle.timeline.specs.declared.shape.Shape.{Shape}
 use Rattle.timeline.specs.declared.piece.Piece.{Piece}
 use Rattle.timeline.specs.declared.piece.PieceBounds.{PieceBounds}

@@ -1,9 +1,8 @@
-use Rattle.std.proofs.Common.{Ok, sym, subst, ap}
-use Rattle.preroll.specs.Carrying.{Carried, carried_of}
+use Rattle.std.proofs.Common.{Ok, sym, ap}
+use Rattle.preroll.specs.Carrying.{carried_of}
 use Rattle.preroll.proofs.Judging.{carried_is}
-use Rattle.splicer.specs.declared.fault.SpliceFault.{SpliceFault}
 use Rattle.splicer.specs.Rules.{carry_rule}
-use Rattle.splicer.specs.Steps.{IfRule, value_of}
+use Rattle.splicer.specs.Steps.{value_of}
 use Rattle.splicer.proofs.Refusals.{refused_carry, rule_is}
 use Rattle.splicer.proofs.join.carry.Goals as goal
 

@@ -1,4 +1,4 @@
-use Rattle.std.proofs.Common.{rules, ◌≡◌, ◌∙◌}
+use Rattle.std.proofs.Common.{rules, ◌≡◌}
 use Rattle.std.specs.Prelude.{is_none, None}
 use Rattle.std.proofs.lemmas.Result.{err_from_is_err_and}
 use Rattle.splicer.specs.Turns.{to_of, turn_at}

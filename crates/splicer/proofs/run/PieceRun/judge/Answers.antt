@@ -1,4 +1,4 @@
-use Rattle.std.proofs.Common.{◌≡◌, List, subst, ap, ◌∙◌}
+use Rattle.std.proofs.Common.{List, subst}
 use Rattle.usac_frame.specs.Units.{UnitValue}
 use Rattle.plans.specs.Coded.{Coded}
 use Rattle.splicer.specs.Rules.{later_fault}
