@@ -1,8 +1,8 @@
 #!/usr/bin/env python3
-"""Says what `xheaac show FILE`, `xheaac check FILE` and `xheaac play FILE` are to do, by a reader of its own: expect.py
-show|check|play FILE writes the same bytes and the same note, and ends with the same status. It shares no code with the program.
-It reads a stream in any mux of one program and one layer, says at which bit or byte it is at fault, judges its prerolls, and
-plays it by the rules of a player and of the example core."""
+"""Says what `xheaac show FILE`, `xheaac check FILE`, `xheaac play FILE` and `xheaac start FILE FRAME` are to do, by a reader of its
+own: expect.py show|check|play FILE and expect.py start FILE FRAME write the same bytes and the same note, and end with the same
+status. It shares no code with the program. It reads a stream in any mux of one program and one layer, says at which bit or byte it
+is at fault, judges its prerolls, and plays it by the rules of a player and of the example core."""
 import struct
 import sys
 
@@ -183,6 +183,8 @@ class Play(Command):
     of the frame is not read."""
 
     core = None
+    # whether the first frame that is played is one within a stream
+    is_within = False
 
     def judge_start(self, unit):
         if not unit.preroll and unit.flag == "0":
@@ -199,11 +201,13 @@ class Play(Command):
         old = self.core
         if old:
             self.judge_join(usac)
-        else:
+        elif not self.is_within:
             self.judge_start(unit)
-        units, fade = carried(usac, unit) if old or unit.preroll else ([], 0)
+        # where something stands before it that is not decoded
+        is_behind = old or self.is_within
+        units, fade = carried(usac, unit) if is_behind or unit.preroll else ([], 0)
         need = WARM_UP[usac.ratio]
-        if old and len(units) < need:
+        if is_behind and len(units) < need:
             raise Broken(f"too few units: {len(units)} of {need}")
         self.core = Fold(usac)
         for before in units:
@@ -214,10 +218,30 @@ class Play(Command):
     def handle(self, frame):
         unit = read_unit(frame)
         try:
-            block = self.begin(frame.mux.asc.usac, unit) if frame.is_changed else self.core.step(unit)
+            is_begun = self.core and not frame.is_changed
+            block = self.core.step(unit) if is_begun else self.begin(frame.mux.asc.usac, unit)
         except Broken as broken:
             raise refused(f"frame {frame.number}", broken) from broken
         return struct.pack(f"<{len(block)}h", *block)
+
+
+class Start(Play):
+    """The samples of the frames from one on. Those before it are not judged and not decoded."""
+
+    def __init__(self, first):
+        self.first, self.is_within = first, first > 0
+        self.is_reached = False
+
+    def handle(self, frame):
+        if frame.number < self.first:
+            return b""
+        self.is_reached = True
+        return super().handle(frame)
+
+    def end(self):
+        if not self.is_reached:
+            raise Stop("refused: past end\n", 1)
+        return b""
 
 
 def text_of(lines):
@@ -282,17 +306,17 @@ def run(command, octets):
     return b"".join(written), b"", 0
 
 
-COMMANDS = {"check": Check, "play": Play, "show": Show}
+COMMANDS = {"check": Check, "play": Play, "show": Show, "start": Start}
 
 
-def expected(word, octets):
-    """The same of the command with that word."""
-    return run(COMMANDS[word](), octets)
+def expected(word, octets, *numbers):
+    """The same of the command with that word, and with the numbers behind the file."""
+    return run(COMMANDS[word](*numbers), octets)
 
 
 def main():
     with open(sys.argv[2], "rb") as file:
-        written, note, status = expected(sys.argv[1], file.read())
+        written, note, status = expected(sys.argv[1], file.read(), *map(int, sys.argv[3:]))
     sys.stdout.buffer.write(written)
     sys.stderr.buffer.write(note)
     return status

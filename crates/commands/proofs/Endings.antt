@@ -23,9 +23,9 @@ told text got None e = absurd cc
 told text got (Some more) e = (more, refl, cc)
 
 -- What is so of each frame of the file is so of the one that is handled.
-pub frame_of_file : (j : Command) (H : List Frame → Type 0) (serves : Frame → Type 0) (old mid : Meaning) (text : List ℕ) (left1 left2 before w1 : Option (List ℕ)) (r1 r2 : Reading) (f1 f2 : ℕ) (event : Event) (mux : MuxConfig)
+pub frame_of_file : (j : Command) (H : List Frame → Type 0) (serves : List Frame → Frame → Type 0) (old mid : Meaning) (text : List ℕ) (left1 left2 before w1 : Option (List ℕ)) (r1 r2 : Reading) (f1 f2 : ℕ) (event : Event) (mux : MuxConfig)
     → (s : GoesOn j H old mid (Some text) left1 before w1 r1) → (p : Reads s.got s.given r1 r2 (record { left = left1; faults = f1 }) (record { left = left2; faults = f2 }) (Ok (Some event)))
-    → (n : Next (s.got ++ p.more) s.given r2 event mux) → OfFile j serves text → Takes j s.given n.frame → serves n.frame
+    → (n : Next (s.got ++ p.more) s.given r2 event mux) → OfFile j serves text → Takes j s.given n.frame → serves s.given n.frame
 frame_of_file j H serves old mid text left1 left2 before w1 r1 r2 f1 f2 event mux s p n each takes =
     let from : Some text ≡ prepend_known (s.got ++ p.more) left2 = s.from ∙ ap (prepend_known s.got) p.from ∙ prepend-prepend s.got p.more left2 in
     let k = told text (s.got ++ p.more) left2 from in

@@ -21,8 +21,8 @@ pub record Command : Type 1 where
   pub plays : Bool
   -- how many units it feeds to the core for a frame, behind the frames before it
   pub units : List Frame → Frame → ℕ
-  -- a calm core does not fail at such a frame
-  pub Serves : Frame → Type 0
+  -- a calm core does not fail at such a frame, behind the frames before it
+  pub Serves : List Frame → Frame → Type 0
 
 -- it writes nothing of a frame before it judges it
 abbrev pub opens_silently : List Frame → Frame → List ℕ

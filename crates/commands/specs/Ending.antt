@@ -146,5 +146,5 @@ Ends c text taken t (is.Memory e) = (frames : List Frame) × (WroteSome c text f
 Ends c text taken t is.TooLarge = (frames : List Frame) × Passes c text frames TooLarge × WroteAll c frames t
 
 -- this is so of each frame of the file that the command takes
-abbrev pub OfFile : Command → (Frame → Type 0) → List ℕ → Type 0
-OfFile c serves text = (before : List Frame) (f : Frame) → TakesFirst c text (before ++ f ∷ []) → serves f
+abbrev pub OfFile : Command → (List Frame → Frame → Type 0) → List ℕ → Type 0
+OfFile c serves text = (before : List Frame) (f : Frame) → TakesFirst c text (before ++ f ∷ []) → serves before f

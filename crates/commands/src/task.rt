@@ -63,7 +63,7 @@ pub trait Task {
         ensures calm_core { C.IsCalm core.old → C.IsCalm core.new }
         ensures calm_writes { K.calm out.old → result ≢ Err FrameEnd.WriteFault }
         ensures calm_decodes { (at : At) (before : List Frame) (f : Frame) → IsEvent before f event.now → mux.now ≡ f.mux → Stands C.does at before self.old (C.meaning core.old).ready →
-            C.IsCalm core.old → (Takes (command at C.does) before f → (command at C.does).Serves f) → result ≢ Err FrameEnd.CoreFault }
+            C.IsCalm core.old → (Takes (command at C.does) before f → (command at C.does).Serves before f) → result ≢ Err FrameEnd.CoreFault }
         ensures untouched { plays ≡ false → core.new ≡ core.old }
         ensures no_core { plays ≡ false → result ≢ Err FrameEnd.CoreFault };
 

@@ -37,7 +37,7 @@ impl Task for Dots {
       Closes = λ frames text. text ≡ 46 ∷ [];
       plays = false;
       units = feeds_none;
-      Serves = λ f. Unit {0};
+      Serves = λ before f. Unit {0};
     } };
 
     ghost then = { λ at frames. at };

@@ -1,6 +1,9 @@
 pub mod Growing
 pub mod PlayerSteps
 pub mod PlaySteps
+pub mod StartSteps
 pub mod FineScripts
 pub mod Taking
+pub mod StartsTaken
+pub mod FileAnswers
 pub mod Headlines

@@ -1,6 +1,8 @@
 -- One frame of a command that feeds it to a player.
-use Rattle.std.proofs.Common.{◌≡◌, ℕ, ◌+◌, ◌≤◌, ◌⊎◌, Bool, true, false, List, [], ◌++◌, length, Option, Some, None, Err, ℤ, refl, sym, ap, subst, ◌∙◌, arith, inl, inr}
+use Rattle.std.proofs.Common.{◌≡◌, ℕ, ◌+◌, ◌≤◌, ◌⊎◌, Bool, true, false, List, [], ◌++◌, length, Option, Some, None, Result, Ok, Err, ℤ, refl, sym, ap, subst, ◌∙◌, arith, inl, inr}
+use Rattle.std.specs.Prelude.{OnOk}
 use Rattle.std.specs.Io.KnownBytes.{append_known}
+use Rattle.std.specs.declared.alloc.AllocError.{AllocError}
 use Rattle.causes.specs.Counts.{HasCause}
 use Rattle.usac_cfg.specs.declared.usac_config.UsacConfig.{UsacConfig}
 use Rattle.usac_cfg.specs.UsacConfig.{IsWellFormed}
@@ -28,6 +30,7 @@ use Rattle.commands.specs.OneFrame.{CausedBy, Handles, DidFrame, DidPart, DidSom
 use Rattle.commands.proofs.Going.{append-none}
 use Rattle.playing.specs.Playing.{play_shown}
 use Rattle.playing.specs.PlayFaults.{refusal_of_play, IsEndOf}
+use Rattle.playing.specs.PlayedFrame.{PlaysFrame, StopsPlaying, StopsWriting}
 
 -- A command calls its player with the frame's configuration and access unit, where the player refuses by these rules. It takes what
 -- the player takes, and refuses by the player's rules; it writes nothing before that; and its units and its bytes are the player's.
@@ -169,21 +172,70 @@ module _ (R : PlayFault → Type 0) (d : Definitions) (c : Command) (before : Li
   ended (plays.Memory x) (ends.Memory a) going h is = inr (record { fed = fed_little h.1; written = (0, append-none w) })
   ended plays.Stopped end going h is = absurd (core_fault (sym h.0 ∙ going))
 
-  -- a calm core does not fail at a frame whose configuration it serves
-  pub ended_calm : (e : PlayFault) (end : FrameEnd) → Answered (Err e) R d config au p q k m s t → IsEndOf number e end → (Takes c before f → d.serves (config_of f)) → (d.serves config → is_core_fault (Err e) ≡ false) → end ≡ ends.CoreFault → ⊥
-  ended_calm e end h is served calm here = by_fault e h (subst (λ (x : FrameEnd). IsEndOf number e x) here is) calm
-    where
-      by_fault : (e : PlayFault) → Answered (Err e) R d config au p q k m s t → is_core_fault (Err e) ≡ true → (d.serves config → is_core_fault (Err e) ≡ false) → ⊥
-      by_fault (plays.FrameFault at) h x calm = core_fault (sym x)
-      by_fault plays.NotIndependent h x calm = core_fault (sym x)
-      by_fault plays.RateChanged h x calm = core_fault (sym x)
-      by_fault plays.ChannelsChanged h x calm = core_fault (sym x)
-      by_fault (plays.Carry fault) h x calm = core_fault (sym x)
-      by_fault (plays.TooFew have need) h x calm = core_fault (sym x)
-      by_fault plays.CoreFault h x calm = core_fault (calm (subst (λ (y : UsacConfig). d.serves y) (sym call.config_is) (served (call.takes h.1))))
-      by_fault (plays.Memory y) h x calm = core_fault (sym x)
-      by_fault plays.Stopped h x calm = core_fault (sym x)
+  -- a frame at which the core failed was taken
+  failed_taken : (e : PlayFault) → Answered (Err e) R d config au p q k m s t → is_core_fault (Err e) ≡ true → Takes c before f
+  failed_taken (plays.FrameFault at) h failed = absurd (core_fault (sym failed))
+  failed_taken plays.NotIndependent h failed = absurd (core_fault (sym failed))
+  failed_taken plays.RateChanged h failed = absurd (core_fault (sym failed))
+  failed_taken plays.ChannelsChanged h failed = absurd (core_fault (sym failed))
+  failed_taken (plays.Carry fault) h failed = absurd (core_fault (sym failed))
+  failed_taken (plays.TooFew have need) h failed = absurd (core_fault (sym failed))
+  failed_taken plays.CoreFault h failed = call.takes h.1
+  failed_taken (plays.Memory y) h failed = absurd (core_fault (sym failed))
+  failed_taken plays.Stopped h failed = absurd (core_fault (sym failed))
 
--- the number of an event is that of its frame
-pub end_there : (number n : ℕ) (fault : PlayFault) (end : FrameEnd) → n ≡ number → IsEndOf n fault end → IsEndOf number fault end
-end_there number n fault end is h = subst (λ (m : ℕ). IsEndOf m fault end) is h
+-- ---- what the call for a frame did
+
+module _ (R : PlayFault → Type 0) (d : Definitions) (config : UsacConfig) (au : List ℕ) (p q : PlayerValue) (k m : Meaning) (s t : List ℤ) (none : s ≡ []) where
+  -- the player answered a fault
+  pub stops_playing : (number : ℕ) (w : Option (List ℕ)) (e : PlayFault) (end : FrameEnd) → Answered (Err e) R d config au p q k m s t → IsEndOf number e end → StopsPlaying number R d config au p q k m t w w end
+  stops_playing number w e end h is = record { fault = e; answered = subst (λ (x : List ℤ). Answered (Err e) R d config au p q k m x t) none h; ends = is; written = refl }
+
+  played_anew : IsPlayed R d config au p q k m s t → IsPlayed R d config au p q k m [] t
+  played_anew h = subst (λ (x : List ℤ). IsPlayed R d config au p q k m x t) none h
+
+  -- a write failed
+  pub stops_writing : (w0 w1 : Option (List ℕ)) (written : List ℕ) (fault : DeviceFault) → IsPlayed R d config au p q k m s t → written ≡ sample_bytes t → WrotePart w0 w1 written → StopsWriting R d config au p q k m t w0 w1 (from_device fault)
+  stops_writing w0 w1 written fault h is part = record { played = played_anew h; fault = fault; ends = refl; written = subst (λ (x : List ℕ). WrotePart w0 w1 x) is part }
+
+  -- memory ran out before anything was written
+  pub stops_unwritten : (w : Option (List ℕ)) (e : AllocError) → IsPlayed R d config au p q k m s t → StopsWriting R d config au p q k m t w w (ends.Memory e)
+  stops_unwritten w e h = record { played = played_anew h; fault = devices.Memory e; ends = refl; written = (0, append-none w) }
+
+  -- all was written
+  pub plays_all : (w0 w1 : Option (List ℕ)) (written : List ℕ) → IsPlayed R d config au p q k m s t → written ≡ sample_bytes t → w1 ≡ append_known w0 written → IsPlayed R d config au p q k m [] t × (w1 ≡ append_known w0 (sample_bytes t))
+  plays_all w0 w1 written h is wrote = (played_anew h, wrote ∙ ap (append_known w0) is)
+
+-- a fault of the core alone ends so
+pub no_core_end : (number : ℕ) (e : PlayFault) (end : FrameEnd) → IsEndOf number e end → is_core_fault (Err e) ≡ false → end ≡ ends.CoreFault → ⊥
+no_core_end number e end is plain here = core_fault (sym (subst (λ (x : FrameEnd). IsEndOf number e x) here is) ∙ plain)
+
+-- ---- what was done with the frame
+
+not_from_device : (fault : DeviceFault) → ends.CoreFault ≡ from_device fault → ⊥
+not_from_device devices.Failed e = cc
+not_from_device (devices.Memory a) e = cc
+
+module _ (R : PlayFault → Type 0) (d : Definitions) (c : Command) (before : List Frame) (f : Frame) (config : UsacConfig) (au : List ℕ) (p q : PlayerValue) (k m : Meaning) (t : List ℤ) (w0 w1 : Option (List ℕ)) (number : ℕ) (call : Follows R d c before f config au p k) (n : number ≡ length before) where
+  pub handled : (result : Result (Unit {0}) FrameEnd) → p.stopped ≡ false → PlaysFrame result number R d config au p q k m t w0 w1 → Handles c before f k m w0 w1 result
+  handled (Ok x) going h = fed_did c before f k m w0 w1 (sample_bytes t) (sample_bytes t) (fed_frame R d c before f config au p q k m [] t call refl h.0) refl h.1
+  handled (Err end) going (inl h) =
+      subst (λ (w : Option (List ℕ)). Handles c before f k m w0 w (Err end)) (sym h.written) (ended R d c before f config au p q k m [] t w0 number call n h.fault end going h.answered h.ends)
+  handled (Err end) going (inr h) =
+      subst (λ (e : FrameEnd). Handles c before f k m w0 w1 (Err e)) (sym h.ends)
+      (fed_stopped c before f k m w0 w1 (sample_bytes t) (sample_bytes t) h.fault (fed_frame R d c before f config au p q k m [] t call refl h.played) refl h.written)
+
+  failed_of : PlaysFrame (Err ends.CoreFault) number R d config au p q k m t w0 w1 → Takes c before f
+  failed_of (inl h) = failed_taken R d c before f config au p q k m [] t w0 number call n h.fault h.answered h.ends
+  failed_of (inr h) = absurd (not_from_device h.fault h.ends)
+
+  -- a calm core does not fail at a frame whose configuration it serves
+  pub handled_calm : (result : Result (Unit {0}) FrameEnd) → PlaysFrame result number R d config au p q k m t w0 w1 → (Takes c before f → d.serves (config_of f)) → (d.serves config → result ≡ Err ends.CoreFault → ⊥) → result ≡ Err ends.CoreFault → ⊥
+  handled_calm result h served calm failed =
+      let taken = failed_of (subst (λ (r : Result (Unit {0}) FrameEnd). PlaysFrame r number R d config au p q k m t w0 w1) failed h) in
+      calm (subst (λ (x : UsacConfig). d.serves x) (sym call.config_is) (served taken)) failed
+
+  -- what holds where it was played
+  pub where_played : {P : Type 0} (result : Result (Unit {0}) FrameEnd) → (IsPlayed R d config au p q k m [] t → P) → PlaysFrame result number R d config au p q k m t w0 w1 → OnOk result P
+  where_played (Ok x) holds h = holds h.0
+  where_played (Err end) holds h = tt

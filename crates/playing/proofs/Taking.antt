@@ -83,18 +83,19 @@ output_is d fs =
 
 -- ---- the law
 
-module _ (d : Definitions) (converge : SplicesConverge d) (takes : RefusesNoSplice d) (alone : TakesSplicesAlone d) (each : CutsEachFrame d) where
-  splice_bytes : (plan : List Part) → IsSoundPlan d.warm plan → (frames : List Frame) → map coded frames ≡ spliced plan → output d frames ≡ plan_bytes d plan
-  splice_bytes plan sound frames e =
-      output_is d frames
-      ∙ (ap (λ (fs : List Coded). plan_bytes d (own_plan fs)) e ∙ ap (λ (blocks : List (List ℤ)). sample_bytes (samples_of blocks)) (converge plan sound))
+-- what a sound plan splices gives the output of the plan
+pub splice_bytes : (d : Definitions) → SplicesConverge d → (plan : List Part) → IsSoundPlan d.warm plan → (frames : List Frame) → map coded frames ≡ spliced plan → output d frames ≡ plan_bytes d plan
+splice_bytes d converge plan sound frames e =
+    output_is d frames
+    ∙ (ap (λ (fs : List Coded). plan_bytes d (own_plan fs)) e ∙ ap (λ (blocks : List (List ℤ)). sample_bytes (samples_of blocks)) (converge plan sound))
 
+module _ (d : Definitions) (converge : SplicesConverge d) (takes : RefusesNoSplice d) (alone : TakesSplicesAlone d) (each : CutsEachFrame d) where
   splice_taken : (plan : List Part) → IsSoundPlan d.warm plan → (frames : List Frame) → map coded frames ≡ spliced plan → TakesAll (playing d []) [] frames
   splice_taken plan sound frames e = takes_given d [] frames (subst (TakesFrames d None) (sym e) (takes plan sound))
 
   takes_splices : (text : List ℕ) → TakesSplices d text
   takes_splices text = record {
-    splice = λ plan sound is. (is.0, record { script = is.1; takes = splice_taken plan sound is.0 is.2 }, splice_bytes plan sound is.0 is.2);
+    splice = λ plan sound is. (is.0, record { script = is.1; takes = splice_taken plan sound is.0 is.2 }, splice_bytes d converge plan sound is.0 is.2);
     own = λ frames p. alone (map coded frames) (script_fine text frames End p.script) (takes_frames d [] frames p.takes);
   }
 

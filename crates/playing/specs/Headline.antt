@@ -1,10 +1,7 @@
 -- The headline: what `play FILE` writes and answers, where FILE carries the splice of whole streams at sound joins, and where it
 -- is any other file.
-use Rattle.std.specs.Prelude.{◌≡◌, ℕ, List, [], map, ◌⊎◌, Some, None}
-use Rattle.std.specs.declared.option.Option.{Option}
-use Rattle.std.specs.Io.KnownBytes.{append_known}
+use Rattle.std.specs.Prelude.{◌≡◌, ℕ, List, [], map, ◌⊎◌, None}
 use Rattle.std.specs.List.{AllZip}
-use Rattle.causes.specs.Counts.{Rose}
 use Rattle.plans.specs.Parts.{Part, spliced}
 use Rattle.plans.specs.OwnPlan.{own_plan}
 use Rattle.plans.specs.SoundPlan.{IsSoundPlan}
@@ -15,17 +12,12 @@ use Rattle.tool_text.specs.declared.refusal.Refusal.{Refusal}
 use Rattle.tool_text.specs.RefusalText.{refusal_text}
 use Rattle.au_stream.specs.Frames.{Frame}
 use Rattle.au_stream.specs.Script.{End, TooLarge}
-use Rattle.commands.specs.Causes.{Counts}
-use Rattle.commands.specs.Ending.{Traces, IsRefused, Passes, OfFile}
+use Rattle.commands.specs.Ending.{Traces, IsRefused, Passes}
 use Rattle.commands.specs.Ran.{Notes, Noted}
 use Rattle.commands.specs.Texts.{large_text}
-use Rattle.commands.specs.Worlds.{World, traces}
-use Rattle.playing.specs.Playing.{playing, IsServed}
+use Rattle.playing.specs.Playing.{playing}
+use Rattle.playing.specs.FileAnswers.{WroteBytes}
 use Rattle.playing.specs.Spliced.{coded, CarriesSplice, CarriesNoSplice, CarriesOwn, plan_bytes, own_bytes}
-
--- these bytes were written, and no others
-abbrev pub WroteBytes : Traces → List ℕ → Type 0
-WroteBytes t bytes = t.written_after ≡ append_known t.written_before bytes
 
 -- Status 0: the bytes of the plan were written, and nothing was noted. The plan's cut has one block for each frame of the timeline,
 -- in order, with the samples of that frame and no others.
@@ -71,16 +63,3 @@ pub record AnswersSplices (d : Definitions) (text : List ℕ) (t : Traces) (n : 
   -- No other answer comes than that of the file's frames, so a file that no rule refuses is played.
   pub verdict : AnswersFrames d text t n status ⊎ (AnswersRefusal d text t n status ⊎ (AnswersLarge d text t n status ⊎ (status ≡ 6)))
   pub taken : (frames : List Frame) → Passes (playing d []) text frames End → AnswersPlan d (own_plan (map coded frames)) t n status ⊎ (status ≡ 6)
-
--- Shelf, out and core are calm, and the core serves the configurations of the file's frames.
-pub record AreCalm {H K C : Type 0} (d : Definitions) (text : List ℕ) (w : World H K C) : Type 0 where
-  pub shelf : w.calm_shelf
-  pub out : w.calm_out
-  pub core : w.calm_core
-  pub served : OfFile (playing d []) (IsServed d) text
-
--- no count of faults rose
-pub record NoneRose (before after : Counts) : Type 0 where
-  pub shelf : Rose before.shelf after.shelf → ⊥
-  pub out : Rose before.out after.out → ⊥
-  pub core : Rose before.core after.core → ⊥

@@ -1,5 +1,9 @@
 pub mod PlayFaults
 pub mod Playing
+pub mod PlayedFrame
 pub mod Standing
+pub mod Starting
 pub mod Spliced
+pub mod FileAnswers
+pub mod SoundStarts
 pub mod Headline

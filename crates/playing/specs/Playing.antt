@@ -56,5 +56,5 @@ playing d earlier = record {
   Closes = ClosesSilently;
   plays = true;
   units = λ before f. play_units (earlier ++ before) f;
-  Serves = IsServed d;
+  Serves = λ before f. IsServed d f;
 }

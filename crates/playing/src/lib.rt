@@ -6,8 +6,11 @@
 //! whole files: `play` takes exactly those that carry the splice of whole streams at sound joins.
 #![tactic(auto)]
 
+mod frame_player;
 pub mod laws;
 mod play_end;
 mod play_task;
+mod start_task;
 
 pub use play_task::Play;
+pub use start_task::Start;

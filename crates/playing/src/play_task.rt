@@ -1,34 +1,28 @@
-// `play`, frame by frame: from an access unit to the sample bytes on the output.
+// `play`, frame by frame.
 ghost use Rattle.std.specs.Prelude.{◌≡◌, None, false};
 
-use crate::play_end::end_of;
+use crate::frame_player::{Entry, FramePlayer};
 use au_stream::EventView;
-use commands::{FrameEnd, Task, give_all};
-use core_iface::{Core, set_sample_bytes};
+use commands::{FrameEnd, Task};
+use core_iface::Core;
 use latm::MuxConfig;
 use outside::Sink;
 use std::alloc::Global;
-use switch_player::Player;
 use tool_text::Within;
 
-/// The frames of `play`, which are fed to one player. Of a frame that was played nothing else is kept but the room of its samples
-/// and bytes.
+/// The frames of `play`, which are fed to one player.
 #[derive(Drop)]
 pub struct Play {
-    player: Player,
-    samples: Vec<i16>,
-    bytes: Vec<u8>,
+    frames: FramePlayer,
 }
 
 impl Play {
     /// Before the first frame.
     pub fn new(alloc: Global) -> Play
-        ensures { result.player ≡ record { last = None; stopped = false } }
+        ensures { result.frames.player ≡ record { last = None; stopped = false } }
     {
         Play {
-            player: Player::new(),
-            samples: Vec::new(alloc),
-            bytes: Vec::new(alloc),
+            frames: FramePlayer::new(alloc),
         }
     }
 }
@@ -49,7 +43,7 @@ impl Task for Play {
 
     ghost plays = { true };
 
-    ghost Stands = { λ d earlier frames task ready. PlayerStands d (earlier ++ frames) task.player ready };
+    ghost Stands = { λ d earlier frames task ready. PlayerStands d (earlier ++ frames) task.frames.player ready };
 
     /// Plays a frame: its samples are one write.
     fn handle<K: Sink, C: Core>(
@@ -60,18 +54,11 @@ impl Task for Play {
         out: &mut K,
         core: &mut C,
     ) -> Result<(), FrameEnd> {
-        let config = &mux.asc.usac;
         let au = event.au(alloc)?;
-        self.samples.clear();
-        if let Err(fault) = self
-            .player
-            .feed(alloc, core, config, au.as_slice(), &mut self.samples)
-        {
-            return Err(end_of(event.frame(), fault));
-        }
-        set_sample_bytes(&self.samples, &mut self.bytes)?;
-        give_all(out, &self.bytes)?;
-        Ok(())
+        let au = au.as_slice();
+        let config = &mux.asc.usac;
+        self.frames
+            .play(alloc, event.frame(), Entry::Next, config, au, out, core)
     }
 
     /// Writes nothing.

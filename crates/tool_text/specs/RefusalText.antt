@@ -62,6 +62,7 @@ reason_text (reasons.BadUnit unit bit) = codes "bad carried unit " & decimal uni
 reason_text (reasons.Nested unit) = codes "nested preroll in unit " & decimal unit
 reason_text reasons.FirstDependent = codes "first unit not independent"
 reason_text (reasons.TooFew have need) = codes "too few units: " & decimal have & codes " of " & decimal need
+reason_text reasons.PastEnd = codes "past end"
 
 -- the whole line, with its line feed
 abbrev pub refusal_text : Option Within → Refusal → List ℕ

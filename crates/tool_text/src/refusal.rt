@@ -87,6 +87,9 @@ pub enum Reason {
     Nested { unit: u32 },
     /// The first access unit of the preroll is not independent, or there is none and the frame is not independent.
     FirstDependent,
-    /// The UsacConfig changes, and the preroll has `have` access units, which are fewer than the core's warm-up, `need`.
+    /// The UsacConfig changes, or decoding starts within the stream, and the preroll has `have` access units, which are fewer than
+    /// the core's warm-up, `need`.
     TooFew { have: u32, need: u32 },
+    /// The stream ends before the frame, or the position, that is asked for.
+    PastEnd,
 }

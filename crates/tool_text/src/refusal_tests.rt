@@ -172,6 +172,7 @@ const REFUSALS: &[(Place, Reason, &str)] = &[
         Reason::TooFew { have: 2, need: 18 },
         "refused: frame 7: too few units: 2 of 18\n",
     ),
+    (Place::Whole, Reason::PastEnd, "refused: past end\n"),
 ];
 
 #[test]

@@ -82,6 +82,7 @@ fn reason_text(alloc: Global, reason: Reason) -> Result<String, AllocError>
         Reason::Nested { unit } => format!(in alloc; "nested preroll in unit {unit}"),
         Reason::FirstDependent => format!(in alloc; "first unit not independent"),
         Reason::TooFew { have, need } => format!(in alloc; "too few units: {have} of {need}"),
+        Reason::PastEnd => format!(in alloc; "past end"),
     }
 }
 

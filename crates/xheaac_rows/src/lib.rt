@@ -18,6 +18,8 @@ mod refusals;
 #[cfg(test)]
 mod shows;
 #[cfg(test)]
+mod starts;
+#[cfg(test)]
 mod streams;
 
 pub use program::play_source;

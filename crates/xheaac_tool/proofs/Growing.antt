@@ -1,7 +1,7 @@
 -- What the output of a command grows by at a frame.
 use Rattle.std.proofs.Common.{◌≡◌, ℕ, ◌+◌, List, [], ◌∷◌, ◌++◌, length, arith, refl, sym, ap, ◌∙◌, append_assoc, lit≤}
 use Rattle.std.proofs.lemmas.List.{append-nil}
-use Rattle.au_stream.specs.Frames.{Frame, config_of}
+use Rattle.au_stream.specs.Frames.{Frame}
 use Rattle.commands.specs.Commands.{IsCommand, Grows}
 use Rattle.xheaac_tool.specs.Showing.{shown_of, shown_from, showing}
 use Rattle.xheaac_tool.specs.Checking.{checking}

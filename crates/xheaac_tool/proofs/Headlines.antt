@@ -1,19 +1,32 @@
--- What `run` answers to `play`.
-use Rattle.std.proofs.Common.{ℕ, Option, subst}
+-- What `run` answers to `play` and to `start`.
+use Rattle.std.proofs.Common.{◌≡◌, ℕ, [], Option, Some, subst}
 use Rattle.outside.specs.declared.shelf.Shelf
 use Rattle.outside.specs.declared.sink.Sink
 use Rattle.core_iface.specs.declared.cores.Core
 use Rattle.core_iface.specs.Decoding.{Definitions}
 use Rattle.commands.specs.Ran.{Notes}
 use Rattle.commands.specs.Worlds.{world}
+use Rattle.playing.specs.SoundStarts.{TakesSoundStarts}
 use Rattle.playing.specs.Spliced.{TakesFilesOfSplices}
-use Rattle.playing.proofs.Headlines.{played}
-use Rattle.xheaac_tool.specs.Headline.{PlaysSplices}
-use Rattle.xheaac_tool.specs.Words.{Case}
+use Rattle.playing.specs.Playing.{playing}
+use Rattle.playing.specs.Starting.{starting}
+use Rattle.playing.proofs.FileAnswers.{answered}
+use Rattle.playing.proofs.Headlines.{playing_silent, starting_silent, answers_splices, answers_start}
+use Rattle.xheaac_tool.specs.Headline.{PlaysSplices, StartsStreams}
+use Rattle.xheaac_tool.specs.Words.{Case, Play, Start}
 use Rattle.xheaac_tool.specs.Answered.{Answered}
 
--- the clause
-pub plays_splices : {H K C : Type 0} (h : Shelf.Ghosts H) (k : Sink.Ghosts K) (c : Core.Ghosts C) (d : Definitions) → TakesFilesOfSplices d → (s0 s1 : H) (o0 o1 : K) (c0 c1 : C) (n : Notes) (status : ℕ) (case : Option Case) → Answered d k case (world h k c s0 o0 c0) (λ sink. world h k c s1 sink c1) o1 n status → PlaysSplices d case (world h k c s0 o0 c0) (world h k c s1 o1 c1) n status
-plays_splices h k c d takes s0 s1 o0 o1 c0 c1 n status case a = λ file text asked held given.
-    let b = subst (λ (x : Option Case). Answered d k x (world h k c s0 o0 c0) (λ sink. world h k c s1 sink c1) o1 n status) asked a in
-    played h k c d takes s0 s1 o0 o1 c0 c1 n status file text b.does.1 b.causes held given
+module _ {H K C : Type 0} (h : Shelf.Ghosts H) (k : Sink.Ghosts K) (c : Core.Ghosts C) (d : Definitions) (s0 s1 : H) (o0 o1 : K) (c0 c1 : C) (n : Notes) (status : ℕ) (case : Option Case) (a : Answered d k case (world h k c s0 o0 c0) (λ sink. world h k c s1 sink c1) o1 n status) where
+  -- what is answered where that is asked
+  of_case : (x : Case) → case ≡ Some x → Answered d k (Some x) (world h k c s0 o0 c0) (λ sink. world h k c s1 sink c1) o1 n status
+  of_case x is = subst (λ (y : Option Case). Answered d k y (world h k c s0 o0 c0) (λ sink. world h k c s1 sink c1) o1 n status) is a
+
+  pub plays_splices : TakesFilesOfSplices d → PlaysSplices d case (world h k c s0 o0 c0) (world h k c s1 o1 c1) n status
+  plays_splices takes = λ file text asked well.
+      let b = of_case (Play file) asked in
+      answers_splices d takes text _ n status (answered h k c (playing d []) (playing_silent d) s0 s1 o0 o1 c0 c1 n status file text b.does.1 b.causes well.0 well.1)
+
+  pub starts_streams : TakesSoundStarts d → StartsStreams d case (world h k c s0 o0 c0) (world h k c s1 o1 c1) n status
+  starts_streams takes = λ file text frame asked well.
+      let b = of_case (Start file frame) asked in
+      answers_start d takes frame text _ n status (answered h k c (starting d frame) (starting_silent d frame) s0 s1 o0 o1 c0 c1 n status file text b.does.1 b.causes well.0 well.1)

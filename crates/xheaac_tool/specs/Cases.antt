@@ -4,11 +4,13 @@ use Rattle.core_iface.specs.Decoding.{Definitions}
 use Rattle.commands.specs.Calling.{Effect}
 use Rattle.commands.specs.OnInput.{on_file}
 use Rattle.playing.specs.Playing.{playing}
+use Rattle.playing.specs.Starting.{starting}
 use Rattle.xheaac_tool.specs.Showing.{showing}
 use Rattle.xheaac_tool.specs.Checking.{checking}
-use Rattle.xheaac_tool.specs.Words.{Case, Show, Check, Play}
+use Rattle.xheaac_tool.specs.Words.{Case, Show, Check, Play, Start}
 
 abbrev pub effect_of : Definitions → Case → Effect
 effect_of d (Show file) = on_file showing
 effect_of d (Check file) = on_file checking
 effect_of d (Play file) = on_file (playing d [])
+effect_of d (Start file frame) = on_file (starting d frame)

@@ -44,4 +44,4 @@ pub record ClosesCounted (frames : List Frame) (text : List ℕ) : Type 0 where
 
 -- `check` writes that line alone, and feeds no frame.
 abbrev pub checking : Command
-checking = record { within = None; opening = opens_silently; Refuses = CheckRefuses; output = λ frames. []; RefusesEnd = RefusesNoEnd; Closes = ClosesCounted; plays = false; units = feeds_none; Serves = λ f. Unit {0} }
+checking = record { within = None; opening = opens_silently; Refuses = CheckRefuses; output = λ frames. []; RefusesEnd = RefusesNoEnd; Closes = ClosesCounted; plays = false; units = feeds_none; Serves = λ before f. Unit {0} }

@@ -2,6 +2,7 @@ pub mod Showing
 pub mod Checking
 pub mod Counting
 pub mod Reading
+pub mod Numbers
 pub mod Words
 pub mod Asked
 pub mod Cases

@@ -63,4 +63,4 @@ opening_of before f = mux_where f.opens f.mux
 
 -- `show` writes them before it judges the frame, refuses a frame that is too short, and feeds none.
 abbrev pub showing : Command
-showing = record { within = None; opening = opening_of; Refuses = IsTooShort; output = shown_from 0; RefusesEnd = RefusesNoEnd; Closes = ClosesSilently; plays = false; units = feeds_none; Serves = λ f. Unit {0} }
+showing = record { within = None; opening = opening_of; Refuses = IsTooShort; output = shown_from 0; RefusesEnd = RefusesNoEnd; Closes = ClosesSilently; plays = false; units = feeds_none; Serves = λ before f. Unit {0} }

@@ -1,18 +1,20 @@
 //! The commands of the program, over a shelf of files, two sinks and a core. [`run`] reads the words of
 //! the command line, does what they ask for, and answers the status. Its contract says, from the bytes
 //! of the file alone, what was written, what was noted and which status is answered; and where a device
-//! or the core fails, what was written before. [`do_show`], [`do_check`] and [`do_play`] are the
-//! commands without their note, for a program that has its own.
+//! or the core fails, what was written before. [`do_show`], [`do_check`], [`do_play`] and [`do_start`]
+//! are the commands without their note, for a program that has its own.
 //!
 //! What they share is the crate `commands`: its runners go over the frames of a file for any task. The
-//! tasks are `show_task` and `check_task`, and in the crate `playing` that of `play`.
+//! tasks are `show_task` and `check_task`, and in the crate `playing` those of `play` and `start`.
 #![tactic(auto)]
 
 mod check;
 mod check_task;
+mod numbers;
 mod play;
 mod show;
 mod show_task;
+mod start;
 mod top;
 mod unit_frame;
 mod words;
@@ -21,5 +23,6 @@ pub use check::do_check;
 pub use commands::Outcome;
 pub use play::do_play;
 pub use show::do_show;
+pub use start::do_start;
 pub use top::{run, run_line};
 pub use words::WordsFault;

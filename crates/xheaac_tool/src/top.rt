@@ -7,16 +7,17 @@ ghost use Rattle.xheaac_tool.specs.Words.{texts, case_of, files_in};
 ghost use Rattle.xheaac_tool.specs.Asked.{asked as case};
 ghost use Rattle.xheaac_tool.specs.Cases.{effect_of};
 ghost use Rattle.xheaac_tool.specs.Answered.{Answered, AnsweredNone};
-ghost use Rattle.xheaac_tool.specs.Headline.{PlaysSplices};
+ghost use Rattle.xheaac_tool.specs.Headline.{PlaysSplices, StartsStreams};
 
 use crate::check::do_check;
 use crate::play::do_play;
 use crate::show::do_show;
+use crate::start::do_start;
 use crate::words::{Asked, WordsFault, read_words};
 use commands::{OUT_OF_MEMORY, Outcome, finish, report};
 use core_iface::Core;
 use outside::{Shelf, Sink};
-use playing::laws::play_takes_splices_alone;
+use playing::laws::{play_takes_splices_alone, start_takes_sound_starts};
 use std::alloc::Global;
 
 const USAGE: &str =
@@ -41,6 +42,7 @@ fn do_asked<H: Shelf, K: Sink, C: Core>(
         Asked::Show { .. } => do_show(alloc, words, shelf, out, core),
         Asked::Check { .. } => do_check(alloc, words, shelf, out, core),
         Asked::Play { .. } => do_play(alloc, words, shelf, out, core),
+        Asked::Start { .. } => do_start(alloc, words, shelf, out, core),
     }
 }
 
@@ -97,8 +99,14 @@ pub fn run<H: Shelf, K: Sink, N: Sink, C: Core>(
     // refused at its first faulty frame, behind the samples of the frames before it.
     ensures splices { PlaysSplices C.does (case_of (texts words.now)) (world H.Shelf K.Sink C.Core shelf.old out.old core.old)
         (world H.Shelf K.Sink C.Core shelf.new out.new core.new) (notes N.Sink note.old note.new) result }
+
+    // Where FILE carries a whole stream with a sound start at FRAME, `start FILE FRAME` writes each frame from there on, with the
+    // samples of the stream decoded alone, from its beginning.
+    ensures starts { StartsStreams C.does (case_of (texts words.now)) (world H.Shelf K.Sink C.Core shelf.old out.old core.old)
+        (world H.Shelf K.Sink C.Core shelf.new out.new core.new) (notes N.Sink note.old note.new) result }
 {
     play_takes_splices_alone::<C>();
+    start_takes_sound_starts::<C>();
     answer(alloc, words, shelf, out, note, core)
 }
 
@@ -120,6 +128,8 @@ pub fn run_line<H: Shelf, K: Sink, N: Sink, C: Core>(
         (λ fault. AnsweredNone fault (world H.Shelf K.Sink C.Core shelf.old out.old core.old)
         (world H.Shelf K.Sink C.Core shelf.new out.new core.new) (notes N.Sink note.old note.new) result) }
     ensures splices { IfOk words (λ line. PlaysSplices C.does (case_of (texts line.items)) (world H.Shelf K.Sink C.Core shelf.old out.old core.old)
+        (world H.Shelf K.Sink C.Core shelf.new out.new core.new) (notes N.Sink note.old note.new) result) }
+    ensures starts { IfOk words (λ line. StartsStreams C.does (case_of (texts line.items)) (world H.Shelf K.Sink C.Core shelf.old out.old core.old)
         (world H.Shelf K.Sink C.Core shelf.new out.new core.new) (notes N.Sink note.old note.new) result) }
 {
     match words {

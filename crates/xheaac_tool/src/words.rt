@@ -4,6 +4,7 @@ ghost use Rattle.std.specs.Prelude.{◌≡◌};
 ghost use Rattle.xheaac_tool.specs.Asked.{asked};
 ghost use Rattle.xheaac_tool.specs.Words.{case_of, texts};
 
+use crate::numbers::read_number;
 use std::alloc::AllocError;
 use thiserror::Error;
 
@@ -23,6 +24,7 @@ pub enum Asked<'a> {
     Show { file: &'a str },
     Check { file: &'a str },
     Play { file: &'a str },
+    Start { file: &'a str, frame: u64 },
 }
 
 /// Reads the words; `None` where they are no case.
@@ -38,6 +40,10 @@ pub fn read_words<'a>(words: &'a [String]) -> Option<Asked<'a>>
         }),
         [command, file] if command.as_str() == "play" => Some(Asked::Play {
             file: file.as_str(),
+        }),
+        [command, file, frame] if command.as_str() == "start" => Some(Asked::Start {
+            file: file.as_str(),
+            frame: read_number(frame.as_str())?,
         }),
         _ => None,
     }

@@ -1,0 +1,3 @@
+pub mod Example
+pub mod File
+pub mod Laws

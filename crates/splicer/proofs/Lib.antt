@@ -1,0 +1,10 @@
+pub mod Refusals
+pub mod Frames
+pub mod Joining
+pub mod Later
+pub mod Bounds
+pub mod Coding
+pub mod Pieces
+pub mod Held
+pub mod Plans
+pub mod Given

@@ -1,0 +1,11 @@
+pub mod Faults
+pub mod Foreign
+pub mod Rules
+pub mod Turns
+pub mod Runs
+pub mod Checks
+pub mod Steps
+pub mod ForeignFound
+pub mod SeenFound
+pub mod Pieces
+pub mod Laws

@@ -1,0 +1,34 @@
+//! What holds of the check of a rendition.
+//!
+//! The functions run no code; their contracts are the theorems.
+ghost use Rattle.splicer.specs.Foreign.{IsDecidedByLast};
+ghost use Rattle.splicer.specs.Laws.{HoldsLastUnits, GivesSoundPieces, GivesFrames, GiveSoundPlans};
+
+/// The last units of a stream decide which carried unit is foreign, as all its units do; and none is foreign exactly where the
+/// carried units are those that the stream has directly before the frame.
+pub fn last_units_decide()
+    ensures { IsDecidedByLast }
+{}
+
+/// What a run holds behind frames: the last 18 of the units that their stream has so far, the number of frames, and the
+/// configuration of the first.
+pub fn runs_hold_the_last_units()
+    ensures { HoldsLastUnits }
+{}
+
+/// A run refuses no frame of a rendition, and at its end gives a piece, exactly where the rendition is a whole stream, the piece lies
+/// between the positions that it was asked for, and it goes on soundly behind the rendition before, or begins a sound plan.
+pub fn sound_pieces_are_given()
+    ensures { GivesSoundPieces }
+{}
+
+/// The frames that such a run says are of the piece, which are those with the turns start, join and play, are the frames of the piece.
+pub fn given_frames_are_the_piece()
+    ensures { GivesFrames }
+{}
+
+/// Runs over renditions one after another refuse nothing, and give parts of them, exactly where these are a sound plan that is timed by
+/// the positions. So whoever checks renditions by runs plans soundly, and refuses no sound plan.
+pub fn sound_plans_are_given()
+    ensures { GiveSoundPlans }
+{}

@@ -1,0 +1,4 @@
+pub mod Order
+pub mod Bounds
+pub mod Plan
+pub mod Laws
