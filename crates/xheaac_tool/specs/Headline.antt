@@ -25,3 +25,13 @@ PlaysSplices d case before after n status =
 abbrev pub StartsStreams : {H K C : Type 0} → Definitions → Option Case → World H K C → World H K C → Notes → ℕ → Type 0
 StartsStreams d case before after n status =
     (file text : List ℕ) (frame : ℕ) → case ≡ Some (Start file frame) → GoesWell (starting d frame) file text before after → AnswersStart d frame text (traces before after) n status
+
+-- What is answered to the commands that play, beyond what each call of a command promises.
+pub record Promises {H K C : Type 0} (d : Definitions) (case : Option Case) (before after : World H K C) (n : Notes) (status : ℕ) : Type 0 where
+  -- The headline. Where FILE carries the splice of whole streams at sound joins, `play FILE` writes each frame of the timeline once,
+  -- in order, with the samples of its own stream decoded alone, and with the fades of fading joins; any other file is refused at its
+  -- first faulty frame, behind the samples of the frames before it.
+  pub splices : PlaysSplices d case before after n status
+  -- Where FILE carries a whole stream with a sound start at FRAME, `start FILE FRAME` writes each frame from there on, with the
+  -- samples of the stream decoded alone, from its beginning.
+  pub starts : StartsStreams d case before after n status

@@ -35,12 +35,6 @@ pub fn do_start<H: Shelf, K: Sink, C: Core>(
     let Some(Asked::Start { file, frame }) = read_words(words) else {
         unreachable!()
     };
-    run_file(
-        alloc,
-        &mut Frames(Start::new(alloc, frame)),
-        file,
-        shelf,
-        out,
-        core,
-    )
+    let task = Start::new(alloc, frame);
+    run_file(alloc, &mut Frames(task), file, shelf, out, core)
 }

@@ -7,7 +7,7 @@ ghost use Rattle.xheaac_tool.specs.Words.{texts, case_of, files_in};
 ghost use Rattle.xheaac_tool.specs.Asked.{asked as case};
 ghost use Rattle.xheaac_tool.specs.Cases.{effect_of};
 ghost use Rattle.xheaac_tool.specs.Answered.{Answered, AnsweredNone};
-ghost use Rattle.xheaac_tool.specs.Headline.{PlaysSplices, StartsStreams};
+ghost use Rattle.xheaac_tool.specs.Headline.{Promises};
 
 use crate::check::do_check;
 use crate::play::do_play;
@@ -94,15 +94,11 @@ pub fn run<H: Shelf, K: Sink, N: Sink, C: Core>(
     ensures answers { Answered C.does K.Sink (case_of (texts words.now)) (world H.Shelf K.Sink C.Core shelf.old out.old core.old)
         (λ sink. world H.Shelf K.Sink C.Core shelf.new sink core.new) out.new (notes N.Sink note.old note.new) result }
 
-    // The headline. Where FILE carries the splice of whole streams at sound joins, `play FILE` writes each frame of the timeline
-    // once, in order, with the samples of its own stream decoded alone, and with the fades of fading joins; any other file is
-    // refused at its first faulty frame, behind the samples of the frames before it.
-    ensures splices { PlaysSplices C.does (case_of (texts words.now)) (world H.Shelf K.Sink C.Core shelf.old out.old core.old)
-        (world H.Shelf K.Sink C.Core shelf.new out.new core.new) (notes N.Sink note.old note.new) result }
-
-    // Where FILE carries a whole stream with a sound start at FRAME, `start FILE FRAME` writes each frame from there on, with the
-    // samples of the stream decoded alone, from its beginning.
-    ensures starts { StartsStreams C.does (case_of (texts words.now)) (world H.Shelf K.Sink C.Core shelf.old out.old core.old)
+    // The headline, in the field `splices`: where FILE carries the splice of whole streams at sound joins, `play FILE` writes each
+    // frame of the timeline once, in order, with the samples of its own stream decoded alone, and with the fades of fading joins;
+    // any other file is refused at its first faulty frame, behind the samples of the frames before it. In `starts`: where FILE
+    // carries a whole stream with a sound start at FRAME, `start FILE FRAME` plays it from there on as decoded alone.
+    ensures promises { Promises C.does (case_of (texts words.now)) (world H.Shelf K.Sink C.Core shelf.old out.old core.old)
         (world H.Shelf K.Sink C.Core shelf.new out.new core.new) (notes N.Sink note.old note.new) result }
 {
     play_takes_splices_alone::<C>();
@@ -127,9 +123,7 @@ pub fn run_line<H: Shelf, K: Sink, N: Sink, C: Core>(
         (λ sink. world H.Shelf K.Sink C.Core shelf.new sink core.new) out.new (notes N.Sink note.old note.new) result)
         (λ fault. AnsweredNone fault (world H.Shelf K.Sink C.Core shelf.old out.old core.old)
         (world H.Shelf K.Sink C.Core shelf.new out.new core.new) (notes N.Sink note.old note.new) result) }
-    ensures splices { IfOk words (λ line. PlaysSplices C.does (case_of (texts line.items)) (world H.Shelf K.Sink C.Core shelf.old out.old core.old)
-        (world H.Shelf K.Sink C.Core shelf.new out.new core.new) (notes N.Sink note.old note.new) result) }
-    ensures starts { IfOk words (λ line. StartsStreams C.does (case_of (texts line.items)) (world H.Shelf K.Sink C.Core shelf.old out.old core.old)
+    ensures promises { IfOk words (λ line. Promises C.does (case_of (texts line.items)) (world H.Shelf K.Sink C.Core shelf.old out.old core.old)
         (world H.Shelf K.Sink C.Core shelf.new out.new core.new) (notes N.Sink note.old note.new) result) }
 {
     match words {

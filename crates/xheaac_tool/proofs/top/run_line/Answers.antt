@@ -3,12 +3,12 @@ use Rattle.xheaac_tool.specs.Words.{texts, case_of}
 use Rattle.xheaac_tool.proofs.top.run_line.Goals as goal
 
 -- the words are those of the list that was handed on
-pub returns-in-Ok-clause-splices : goal.returns-in-Ok-clause-splices
-returns-in-Ok-clause-splices g c =
+pub returns-in-Ok-clause-promises : goal.returns-in-Ok-clause-promises
+returns-in-Ok-clause-promises g c =
+    let same = ap (λ words. case_of (texts words)) c.deref.ensures.value in
+    let promises = c.run.ensures.promises in
     rw c.in-Ok.is
-    (λ file text asked well. c.run.ensures.splices file text (ap (λ words. case_of (texts words)) c.deref.ensures.value ∙ asked) well)
-
-pub returns-in-Ok-clause-starts : goal.returns-in-Ok-clause-starts
-returns-in-Ok-clause-starts g c =
-    rw c.in-Ok.is
-    (λ file text frame asked well. c.run.ensures.starts file text frame (ap (λ words. case_of (texts words)) c.deref.ensures.value ∙ asked) well)
+    (record {
+      splices = λ file text asked well. promises.splices file text (same ∙ asked) well;
+      starts = λ file text frame asked well. promises.starts file text frame (same ∙ asked) well;
+    })
