@@ -1,17 +1,22 @@
 -- What a run holds behind frames.
-use Rattle.std.proofs.Common.{◌≡◌, ℕ, ◌+◌, List, [], ◌∷◌, ◌++◌, length, map, refl, ap, sym, ◌∙◌, arith}
+use Rattle.std.proofs.Common.{◌≡◌, ℕ, ◌+◌, List, [], ◌∷◌, ◌++◌, length, map, Option, None, refl, ap, sym, ◌∙◌, arith}
+use Rattle.std.specs.Prelude.{◌==◌, if◌then◌else◌}
 use Rattle.std.proofs.lemmas.List.{append_assoc, append-nil}
 use Rattle.usac_cfg.specs.declared.usac_config.UsacConfig.{UsacConfig}
+use Rattle.usac_cfg.specs.UsacConfig.{IsWellFormed}
 use Rattle.usac_frame.specs.Units.{UnitValue}
-use Rattle.preroll.specs.Carrying.{units_in, carried_in}
+use Rattle.preroll.specs.Carrying.{units_in, short_at, carried_in}
 use Rattle.plans.specs.Coded.{Coded, coded_shown}
 use Rattle.plans.specs.StreamUnits.{units_of}
 use Rattle.plans.specs.WholeStream.{stream_config}
 use Rattle.splicer.specs.declared.asked.Asked.{Asked}
+use Rattle.splicer.specs.declared.fault.SpliceFault.{SpliceFault}
 use Rattle.splicer.specs.Foreign.{last_n}
 use Rattle.splicer.specs.ForeignFound.{last_n-push}
-use Rattle.splicer.specs.Runs.{RunValue, new_run, behind, run_over}
+use Rattle.splicer.specs.Rules.{or_then, change_rule, short_rule, from_of, fault_of}
+use Rattle.splicer.specs.Runs.{RunValue, new_run, fault, behind, run_over}
 use Rattle.splicer.specs.Laws.{HoldsLastUnits}
+use Rattle.splicer.proofs.Joining.{rule_by_last, few_carried}
 use Rattle.splicer.proofs.Later.{unit_at, own_units, later}
 use Rattle.splicer.proofs.Coding.{own_shown}
 
@@ -53,5 +58,14 @@ pub run_more : (v : RunValue) (fs gs : List Coded) → run_over v (fs ++ gs) ≡
 run_more v [] gs = refl
 run_more v (f ∷ fs) gs = run_more (behind v f) fs gs
 
+judged_all : (a : Asked) (fs : List Coded) (need : ℕ) (f : Coded) → IsWellFormed f.config → fault (run_over (new_run a) fs) need f ≡ fault_of a (stream_config fs) (length fs) (units_of (map coded_shown fs)) need f
+judged_all a [] need f w = refl
+judged_all a (g ∷ rest) need f w =
+    let n = length (g ∷ rest) in
+    let us = units_of (map coded_shown (g ∷ rest)) in
+    ap (λ (v : RunValue). fault v need f) (run_held a g rest)
+    ∙ ap (λ (j : Option SpliceFault). or_then (change_rule g.config n f.config) (or_then (short_rule n (short_at f.config f.au)) (if from_of a f.config == n then j else None)))
+    (rule_by_last a.before n need us f.config (carried_in f.config f.au) (few_carried f.config f.au w))
+
 pub holds_last_units : HoldsLastUnits
-holds_last_units = record { kept = kept_held; frames = frames_held; first = first_held; more = λ a fs gs. run_more (new_run a) fs gs }
+holds_last_units = record { kept = kept_held; frames = frames_held; first = first_held; judges = judged_all; more = λ a fs gs. run_more (new_run a) fs gs }

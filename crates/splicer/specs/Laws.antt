@@ -12,15 +12,18 @@ use Rattle.plans.specs.StreamUnits.{units_of}
 use Rattle.plans.specs.WholeStream.{stream_config}
 use Rattle.splicer.specs.declared.asked.Asked.{Asked}
 use Rattle.splicer.specs.Foreign.{last_n}
-use Rattle.splicer.specs.Runs.{new_run, run_over}
+use Rattle.splicer.specs.Rules.{fault_of}
+use Rattle.splicer.specs.Runs.{new_run, fault, run_over}
 use Rattle.splicer.specs.Pieces.{GivesPiece, part_of, IsSoundPiece, Rises, GiveParts, AreTimedBy, given}
 
 -- What a run holds behind frames: the last 18 of the units that their stream has so far, their number, and the first one's
--- configuration.
+-- configuration. The first rule that a further frame breaks is that by all units of the stream.
 pub record HoldsLastUnits : Type 0 where
   pub kept : (a : Asked) (fs : List Coded) → (run_over (new_run a) fs).kept ≡ last_n 18 (units_of (map coded_shown fs))
   pub frames : (a : Asked) (fs : List Coded) → (run_over (new_run a) fs).frames ≡ length fs
   pub first : (a : Asked) (fs : List Coded) → (run_over (new_run a) fs).first ≡ stream_config fs
+  pub judges : (a : Asked) (fs : List Coded) (need : ℕ) (f : Coded) → IsWellFormed f.config
+      → fault (run_over (new_run a) fs) need f ≡ fault_of a (stream_config fs) (length fs) (units_of (map coded_shown fs)) need f
   pub more : (a : Asked) (fs gs : List Coded) → run_over (new_run a) (fs ++ gs) ≡ run_over (run_over (new_run a) fs) gs
 
 -- A run refuses no frame of a rendition, and gives a piece of it, exactly where that is a sound piece of a whole stream. It holds for

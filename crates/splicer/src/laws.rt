@@ -11,7 +11,7 @@ pub fn last_units_decide()
 {}
 
 /// What a run holds behind frames: the last 18 of the units that their stream has so far, the number of frames, and the
-/// configuration of the first.
+/// configuration of the first. The first rule that a further frame breaks is the one by all units of the stream.
 pub fn runs_hold_the_last_units()
     ensures { HoldsLastUnits }
 {}
