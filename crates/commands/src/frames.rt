@@ -14,8 +14,8 @@ use outside::{Sink, Source};
 use std::alloc::{AllocError, Global};
 use tool_text::{Refusal, Within, loas_refusal, mux_refusal, refusal_line};
 
-/// The outcome of a refusal.
-fn refused(alloc: Global, within: Option<Within>, refusal: Option<Refusal>) -> Outcome
+/// The outcome of a refusal, or of none, which is out of memory.
+pub fn refused(alloc: Global, within: Option<Within>, refusal: Option<Refusal>) -> Outcome
     ensures { IsRefusedBy within refusal result }
 {
     let Some(refusal) = refusal else {

@@ -31,7 +31,7 @@ mod whole;
 
 pub use alone::{Alone, run_none};
 pub use frame_end::{FrameEnd, too_short};
-pub use frames::Frames;
+pub use frames::{Frames, refused};
 pub use give::give_all;
 pub use input::{Input, run_file};
 pub use inputs::{Inputs, run_files};

@@ -12,7 +12,7 @@ use Rattle.au_stream.specs.Script.{End, TooLarge}
 use Rattle.au_stream.proofs.Marks.{one_script, same_frames}
 use Rattle.commands.specs.declared.outcome.Outcome.{Outcome}
 use Rattle.commands.specs.declared.outcome.Outcome.TheVariants as is
-use Rattle.commands.specs.Calling.{Called}
+use Rattle.commands.specs.Calling.{Effect, AreHeld, AllHeld, Called}
 use Rattle.commands.specs.Causes.{Counts}
 use Rattle.commands.specs.Commands.{Command, TakesAll, TakesEnd}
 use Rattle.commands.specs.Doing.{IsNotBegun}
@@ -50,7 +50,7 @@ not_large : (c : Command) (text : List ℕ) (frames others : List Frame) → Pas
 not_large c text frames others p q = let e : End ≡ TooLarge = (one_script text frames others End TooLarge p.script q.script).1 in cc
 
 -- no status of a fault
-abbrev IsNoFault : ℕ → Type 0
+abbrev pub IsNoFault : ℕ → Type 0
 IsNoFault status = (status ≢ 3) × (status ≢ 4) × (status ≢ 5)
 
 -- ---- by how the command ended
@@ -135,7 +135,7 @@ module _ (c : Command) (silent : IsSilent c) (text : List ℕ) (t : Traces) (n :
 
 -- ---- no status of a fault
 
-none_rose : (before after : Counts) (status : ℕ) → NoneRose before after → CausesOf before after status → IsNoFault status
+pub none_rose : (before after : Counts) (status : ℕ) → NoneRose before after → CausesOf before after status → IsNoFault status
 none_rose before after status none causes = (
   (λ e. none.shelf (causes.read e).0),
   (λ e. elim (causes.write e) [ inl x ↦ none.out x.1 | inr x ↦ none.out x.0 ]),
@@ -154,13 +154,20 @@ read_no_write e = cc
 core_no_write : is.CoreFault ≢ is.WriteFault
 core_no_write e = cc
 
+-- where shelf, out and core are calm, and what the command needs is served
+pub calm_well : {H K C : Type 0} (h : Shelf.Ghosts H) (k : Sink.Ghosts K) (g : Core.Ghosts C) (e : Effect) (names texts : List (List ℕ)) (s0 s1 : H) (o0 behind o1 : K) (c0 c1 : C) (n : Notes) (status : ℕ) (o ended : Outcome)
+    → Called e names (world h k g s0 o0 c0) (world h k g s1 behind c1) o → Settles (k.faults behind) (k.faults o1) o ended → (k.calm behind → ended ≡ is.WriteFault → o ≡ is.WriteFault) → Reports n (text_of ended) (status_of ended) status
+    → AllHeld (h.bytes s0) names → AreHeld (h.bytes s0) names texts → e.Serves texts → h.calm s0 → k.calm o0 → g.IsCalm c0 → IsNoFault status
+calm_well h k g e names texts s0 s1 o0 behind o1 c0 c1 n status o ended called settles flushed reports all held serves shelf out core = (
+  (λ z. settles_well _ _ o ended is.ReadFault settles (called.calm_reads shelf all) read_no_write (λ m. m) (read_outcome n ended status reports z)),
+  (λ z. called.calm_writes out (flushed (called.keeps.calm_out out) (write_outcome n ended status reports z))),
+  (λ z. settles_well _ _ o ended is.CoreFault settles (called.calm_decodes texts held serves core) core_no_write (λ m. m) (core_outcome n ended status reports z)),
+)
+
 module _ {H K C : Type 0} (h : Shelf.Ghosts H) (k : Sink.Ghosts K) (g : Core.Ghosts C) (c : Command) (silent : IsSilent c) (s0 s1 : H) (o0 o1 : K) (c0 c1 : C) (n : Notes) (status : ℕ) (file text : List ℕ) where
   calm_status : (behind : K) (o ended : Outcome) → Called (on_file c) (file ∷ []) (world h k g s0 o0 c0) (world h k g s1 behind c1) o → Settles (k.faults behind) (k.faults o1) o ended → (k.calm behind → ended ≡ is.WriteFault → o ≡ is.WriteFault) → Reports n (text_of ended) (status_of ended) status → h.bytes s0 file ≡ Some text → AreCalm c text (world h k g s0 o0 c0) → IsNoFault status
-  calm_status behind o ended called settles flushed reports held calm = (
-    (λ e. settles_well _ _ o ended is.ReadFault settles (called.calm_reads calm.shelf (ap is_some held, tt)) read_no_write (λ m. m) (read_outcome n ended status reports e)),
-    (λ e. called.calm_writes calm.out (flushed (called.keeps.calm_out calm.out) (write_outcome n ended status reports e))),
-    (λ e. settles_well _ _ o ended is.CoreFault settles (called.calm_decodes (text ∷ []) (held, tt) calm.served calm.core) core_no_write (λ m. m) (core_outcome n ended status reports e)),
-  )
+  calm_status behind o ended called settles flushed reports held calm =
+      calm_well h k g (on_file c) (file ∷ []) (text ∷ []) s0 s1 o0 behind o1 c0 c1 n status o ended called settles flushed reports (ap is_some held, tt) (held, tt) calm.served calm.shelf calm.out calm.core
 
   pub answered : Ran k (on_file c) (file ∷ []) (world h k g s0 o0 c0) (λ sink. world h k g s1 sink c1) o1 n status → CausesOf (world h k g s0 o0 c0).faults (world h k g s1 o1 c1).faults status → h.bytes s0 file ≡ Some text → AreCalm c text (world h k g s0 o0 c0) ⊎ NoneRose (world h k g s0 o0 c0).faults (world h k g s1 o1 c1).faults → AnswersFile c text (traces (world h k g s0 o0 c0) (world h k g s1 o1 c1)) n status
   answered ran causes held given =

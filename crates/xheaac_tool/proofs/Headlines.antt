@@ -1,5 +1,6 @@
--- What `run` answers to `play` and to `start`.
-use Rattle.std.proofs.Common.{◌≡◌, ℕ, [], Option, Some, subst}
+-- What `run` answers to single commands.
+use Rattle.std.proofs.Common.{◌≡◌, ℕ, [], length, Option, Some, sym, subst, ◌∙◌}
+use Rattle.std.proofs.lemmas.List.{length-map}
 use Rattle.outside.specs.declared.shelf.Shelf
 use Rattle.outside.specs.declared.sink.Sink
 use Rattle.core_iface.specs.declared.cores.Core
@@ -12,8 +13,10 @@ use Rattle.playing.specs.Playing.{playing}
 use Rattle.playing.specs.Starting.{starting}
 use Rattle.playing.proofs.FileAnswers.{answered}
 use Rattle.playing.proofs.Headlines.{playing_silent, starting_silent, answers_splices, answers_start}
-use Rattle.xheaac_tool.specs.Headline.{PlaysSplices, StartsStreams}
-use Rattle.xheaac_tool.specs.Words.{Case, Play, Start}
+use Rattle.joining.specs.Answers.{NoEventIsAPlan}
+use Rattle.joining.proofs.Answered.{plans_soundly}
+use Rattle.xheaac_tool.specs.Headline.{PlaysSplices, StartsStreams, PlansPieces}
+use Rattle.xheaac_tool.specs.Words.{Case, Play, Start, Plan, files_of, positions_of}
 use Rattle.xheaac_tool.specs.Answered.{Answered}
 
 module _ {H K C : Type 0} (h : Shelf.Ghosts H) (k : Sink.Ghosts K) (c : Core.Ghosts C) (d : Definitions) (s0 s1 : H) (o0 o1 : K) (c0 c1 : C) (n : Notes) (status : ℕ) (case : Option Case) (a : Answered d k case (world h k c s0 o0 c0) (λ sink. world h k c s1 sink c1) o1 n status) where
@@ -30,3 +33,9 @@ module _ {H K C : Type 0} (h : Shelf.Ghosts H) (k : Sink.Ghosts K) (c : Core.Gho
   starts_streams takes = λ file text frame asked well.
       let b = of_case (Start file frame) asked in
       answers_start d takes frame text _ n status (answered h k c (starting d frame) (starting_silent d frame) s0 s1 o0 o1 c0 c1 n status file text b.does.1 b.causes well.0 well.1)
+
+  pub plans_pieces : NoEventIsAPlan → PlansPieces d case (world h k c s0 o0 c0) (world h k c s1 o1 c1) n status
+  plans_pieces law = λ pieces texts asked held.
+      let b = of_case (Plan pieces) asked in
+      let each : length (positions_of pieces) ≡ length (files_of pieces) = length-map pieces (λ p. p.position) ∙ sym (length-map pieces (λ p. p.file)) in
+      plans_soundly h k c d law (positions_of pieces) (files_of pieces) texts s0 s1 o0 o1 c0 c1 n status (b.statuses, b.does.0) each b.does.1 b.causes held

@@ -7,10 +7,12 @@ use Rattle.playing.specs.Playing.{playing}
 use Rattle.playing.specs.Starting.{starting}
 use Rattle.xheaac_tool.specs.Showing.{showing}
 use Rattle.xheaac_tool.specs.Checking.{checking}
-use Rattle.xheaac_tool.specs.Words.{Case, Show, Check, Play, Start}
+use Rattle.joining.specs.Planning.{plans_files}
+use Rattle.xheaac_tool.specs.Words.{Case, Show, Check, Play, Start, Plan, positions_of}
 
 abbrev pub effect_of : Definitions → Case → Effect
 effect_of d (Show file) = on_file showing
 effect_of d (Check file) = on_file checking
 effect_of d (Play file) = on_file (playing d [])
 effect_of d (Start file frame) = on_file (starting d frame)
+effect_of d (Plan pieces) = plans_files d (positions_of pieces)

@@ -1,7 +1,8 @@
--- The headline, and what `start` does with a whole stream, as clauses of the top call.
+-- The headline, and theorems on single commands, as clauses of the top call.
 use Rattle.std.specs.Prelude.{◌≡◌, ℕ, List, [], ◌⊎◌, Some}
 use Rattle.std.specs.declared.option.Option.{Option}
 use Rattle.core_iface.specs.Decoding.{Definitions}
+use Rattle.commands.specs.Calling.{AreHeld}
 use Rattle.commands.specs.Commands.{Command}
 use Rattle.commands.specs.Ran.{Notes}
 use Rattle.commands.specs.Worlds.{World, traces}
@@ -10,7 +11,8 @@ use Rattle.playing.specs.Headline.{AnswersSplices}
 use Rattle.playing.specs.Playing.{playing}
 use Rattle.playing.specs.SoundStarts.{AnswersStart}
 use Rattle.playing.specs.Starting.{starting}
-use Rattle.xheaac_tool.specs.Words.{Case, Play, Start}
+use Rattle.joining.specs.Answers.{PlansSoundly}
+use Rattle.xheaac_tool.specs.Words.{Case, Play, Start, Plan, PieceWords, files_of, positions_of}
 
 -- The shelf tells these bytes of FILE; and shelf, out and core are calm for the command, or no count of their faults rose.
 abbrev pub GoesWell : {H K C : Type 0} → Command → List ℕ → List ℕ → World H K C → World H K C → Type 0
@@ -26,7 +28,12 @@ abbrev pub StartsStreams : {H K C : Type 0} → Definitions → Option Case → 
 StartsStreams d case before after n status =
     (file text : List ℕ) (frame : ℕ) → case ≡ Some (Start file frame) → GoesWell (starting d frame) file text before after → AnswersStart d frame text (traces before after) n status
 
--- What is answered to the commands that play, beyond what each call of a command promises.
+-- and to `plan FILE POS [FILE POS]...`
+abbrev pub PlansPieces : {H K C : Type 0} → Definitions → Option Case → World H K C → World H K C → Notes → ℕ → Type 0
+PlansPieces d case before after n status =
+    (pieces : List PieceWords) (texts : List (List ℕ)) → case ≡ Some (Plan pieces) → AreHeld before.bytes (files_of pieces) texts → PlansSoundly d (positions_of pieces) (files_of pieces) texts before after n status
+
+-- What is answered to single commands, beyond what each call of a command promises.
 pub record Promises {H K C : Type 0} (d : Definitions) (case : Option Case) (before after : World H K C) (n : Notes) (status : ℕ) : Type 0 where
   -- The headline. Where FILE carries the splice of whole streams at sound joins, `play FILE` writes each frame of the timeline once,
   -- in order, with the samples of its own stream decoded alone, and with the fades of fading joins; any other file is refused at its
@@ -35,3 +42,6 @@ pub record Promises {H K C : Type 0} (d : Definitions) (case : Option Case) (bef
   -- Where FILE carries a whole stream with a sound start at FRAME, `start FILE FRAME` writes each frame from there on, with the
   -- samples of the stream decoded alone, from its beginning.
   pub starts : StartsStreams d case before after n status
+  -- The first event of the files decides what `plan` answers and tells; and there is none exactly where they are the streams of a sound
+  -- plan that is timed by the positions.
+  pub plans : PlansPieces d case before after n status

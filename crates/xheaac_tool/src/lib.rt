@@ -11,6 +11,7 @@
 mod check;
 mod check_task;
 mod numbers;
+mod plan;
 mod play;
 mod show;
 mod show_task;
@@ -21,6 +22,7 @@ mod words;
 
 pub use check::do_check;
 pub use commands::Outcome;
+pub use plan::do_plan;
 pub use play::do_play;
 pub use show::do_show;
 pub use start::do_start;

@@ -1,0 +1,5 @@
+pub mod Refusals
+pub mod Renditions
+pub mod Planning
+pub mod Events
+pub mod Answers

@@ -1,0 +1,15 @@
+//! Renditions joined at positions on a timeline: the commands on pieces of several files.
+//!
+//! [`plan_files`] checks the pieces of renditions, one file after another, and tells each on a line of its own. What becomes of the
+//! files is said by their first event, in the order of the files and of their frames: the first rule that is broken, or the first
+//! file that does not end behind its last frame. [`laws::no_event_is_a_sound_plan`] says that there is none exactly where the files
+//! are whole streams whose pieces make a sound plan, which is timed by the positions.
+#![tactic(auto)]
+
+mod fault_end;
+pub mod laws;
+mod plan_task;
+mod planned;
+mod renditions;
+
+pub use planned::plan_files;
