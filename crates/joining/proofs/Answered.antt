@@ -1,5 +1,5 @@
 -- What is answered to `plan`, from what was promised of the call.
-use Rattle.std.proofs.Common.{◌≡◌, ℕ, suc, ◌<◌, List, [], ◌∷◌, length, map, Option, Some, None, Result, Ok, Err, false, refl, sym, ap, subst, ◌∙◌, arith, ◌⊎◌, inl, inr}
+use Rattle.std.proofs.Common.{◌≡◌, ℕ, zero, suc, ◌<◌, List, [], ◌∷◌, length, map, Option, Some, None, Result, Ok, Err, false, refl, sym, ap, subst, ◌∙◌, arith, ◌⊎◌, inl, inr}
 use Rattle.std.specs.Prelude.{◌≢◌, ◌↔◌, is_some}
 use Rattle.std.specs.Io.KnownBytes.{append_known}
 use Rattle.timeline.specs.declared.fault.PlanFault.{PlanFault}
@@ -164,14 +164,14 @@ decided_or_memory : (status : ℕ) → status < 8 → status ≢ 2 → IsNoFault
 decided_or_memory status few not_two ok = by_status status few not_two ok
   where
     by_status : (s : ℕ) → s < 8 → s ≢ 2 → IsNoFault s → IsDecided s ⊎ (s ≡ 6)
-    by_status 0 few not_two ok = inl (inl refl)
-    by_status 1 few not_two ok = inl (inr (inl refl))
-    by_status 2 few not_two ok = absurd (not_two refl)
-    by_status 3 few not_two ok = absurd (ok.0 refl)
-    by_status 4 few not_two ok = absurd (ok.1 refl)
-    by_status 5 few not_two ok = absurd (ok.2 refl)
-    by_status 6 few not_two ok = inr refl
-    by_status 7 few not_two ok = inl (inr (inr refl))
+    by_status zero few not_two ok = inl (inl refl)
+    by_status (suc zero) few not_two ok = inl (inr (inl refl))
+    by_status (suc (suc zero)) few not_two ok = absurd (not_two refl)
+    by_status (suc (suc (suc zero))) few not_two ok = absurd (ok.0 refl)
+    by_status (suc (suc (suc (suc zero)))) few not_two ok = absurd (ok.1 refl)
+    by_status (suc (suc (suc (suc (suc zero))))) few not_two ok = absurd (ok.2 refl)
+    by_status (suc (suc (suc (suc (suc (suc zero)))))) few not_two ok = inr refl
+    by_status (suc (suc (suc (suc (suc (suc (suc zero))))))) few not_two ok = inl (inr (inr refl))
     by_status (suc (suc (suc (suc (suc (suc (suc (suc s)))))))) few not_two ok = absurd (omega (arith, few))
 
 held_long : (bytes : List ℕ → Option (List ℕ)) (names texts : List (List ℕ)) → AreHeld bytes names texts → length names ≡ length texts
@@ -219,19 +219,19 @@ module _ {H K C : Type 0} (h : Shelf.Ghosts H) (k : Sink.Ghosts K) (g : Core.Gho
           (subst (λ (y : Outcome). let x = where_ordered (order_result positions) (on_inputs (several (planning d) next_at false) (first_at positions)) in x.Does texts called.taken (trace (k.written ran.behind)) y) e (called.does texts held))
 
       decided : IsDecided status → (ss : List FileScript) → AreScripts texts ss → TellsFirst d positions ss t n status
-      decided is ss are =
-          let told = told_status n ended status status ran.finished.reported refl (not_memory is) in
-          let own = own_end ended status (sym told.0) is in
+      decided own_status ss are =
+          let told = told_status n ended status status ran.finished.reported refl (not_memory own_status) in
+          let own = own_end ended status (sym told.0) own_status in
           let same = settled _ _ ran.outcome ended ran.finished.flushed.settles own in
           let x = says_first d positions texts called.taken t (order_result positions) refl ended own (does ended (sym same)) long ss are in
           record { event = tells n status ended _ x.0 (sym told.0) told.1 (λ z. (ran.finished.noted.done z).0); wrote = x.1 }
 
       read : status ≡ 3 → TellsRead d positions texts called.taken t n
-      read is =
-          let at_read = read_outcome n ended status ran.finished.reported is in
+      read three =
+          let at_read = read_outcome n ended status ran.finished.reported three in
           let o = settled_read _ _ ran.outcome ended ran.finished.flushed.settles at_read in
           let x = reads_on d positions texts called.taken t (order_result positions) refl (does is.ReadFault o) long in
-          record { scripts = x.0; cut = x.1; on = x.2; wrote = x.3; noted = ran.finished.noted.read is }
+          record { scripts = x.0; cut = x.1; on = x.2; wrote = x.3; noted = ran.finished.noted.read three }
 
       no_fault : GoesWell (world h k g s0 o0 c0) (world h k g s1 o1 c1) → IsNoFault status
       no_fault (inl calm) = calm_well h k g (plans_files d positions) names texts s0 s1 o0 ran.behind o1 c0 c1 n status ran.outcome ended called ran.finished.flushed.settles ran.finished.flushed.calm_writes ran.finished.reported

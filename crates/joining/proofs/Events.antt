@@ -59,7 +59,7 @@ module _ (d : Definitions) (at : PieceAt) where
   next_breaks frames f later r e h is = behind_taken [] frames (map coded (f ∷ later)) h ∙ then_some _ _ e is
 
   -- the piece that is there
-  end_is : (frames : List Frame) → (run_at at frames).ended ≡ false → TakesEnd (planning d at) frames → (p : Piece) × (end (run_at at frames) ≡ Ok p)
+  pub end_is : (frames : List Frame) → (run_at at frames).ended ≡ false → TakesEnd (planning d at) frames → (p : Piece) × (end (run_at at frames) ≡ Ok p)
   end_is frames going takes = by_end (end (run_at at frames)) refl (end_told (run_at at frames) going)
     where
       by_end : (q : Result Piece SpliceFault) → end (run_at at frames) ≡ q → IsEndTold q → (p : Piece) × (end (run_at at frames) ≡ Ok p)

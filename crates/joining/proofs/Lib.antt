@@ -4,4 +4,4 @@ pub mod Events
 pub mod Told
 pub mod NoEvent
 pub mod Answered
-pub mod Idle
+pub mod Calls

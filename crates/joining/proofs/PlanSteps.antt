@@ -1,23 +1,27 @@
 -- One frame of `plan`, and the end of a rendition.
-use Rattle.std.proofs.Common.{◌≡◌, ℕ, ◌+◌, ◌<◌, List, [], ◌∷◌, ◌++◌, length, map, Option, Some, None, Ok, Err, Result, true, false, refl, sym, ap, subst, ◌∙◌, arith, inl, inr}
+use Rattle.std.proofs.Common.{◌≡◌, ℕ, ◌+◌, ◌<◌, Bool, List, [], ◌∷◌, ◌++◌, length, map, Option, Some, None, Ok, Err, Result, true, false, refl, sym, ap, subst, ◌∙◌, arith, inl, inr}
 use Rattle.std.specs.Io.KnownBytes.{append_known}
+use Rattle.std.specs.Prelude.{nat_lt, if◌then◌else◌}
+use Rattle.std.proofs.lemmas.Bool.{ltb-true}
 use Rattle.std.proofs.lemmas.List.{length-append, map-append}
 use Rattle.usac_cfg.specs.declared.usac_config.UsacConfig.{UsacConfig}
 use Rattle.timeline.specs.declared.piece.Piece.{Piece}
 use Rattle.plans.specs.Coded.{Coded}
+use Rattle.plans.specs.WholeStream.{stream_config}
 use Rattle.splicer.specs.declared.asked.Asked.{Asked}
 use Rattle.splicer.specs.declared.turn.Turn.{Turn}
 use Rattle.splicer.specs.declared.fault.SpliceFault.{SpliceFault}
 use Rattle.splicer.specs.declared.fault.SpliceFault.TheVariants as splices
 use Rattle.splicer.specs.Runs.{RunValue, new_run, run_over, fault, turn, behind, end}
 use Rattle.splicer.specs.Checks.{Checks}
-use Rattle.splicer.proofs.Held.{run_more}
+use Rattle.splicer.proofs.Held.{run_more, holds_last_units}
 use Rattle.core_iface.specs.Answering.{Meaning}
 use Rattle.core_iface.specs.Decoding.{Definitions}
 use Rattle.tool_text.specs.declared.refusal.Refusal.{Refusal}
 use Rattle.outside.specs.declared.fault.DeviceFault.{DeviceFault}
 use Rattle.outside.specs.declared.fault.DeviceFault.TheVariants as devices
 use Rattle.au_stream.specs.Frames.{Frame, config_of}
+use Rattle.std.specs.declared.alloc.AllocError.{AllocError}
 use Rattle.commands.specs.declared.frame_end.FrameEnd.{FrameEnd}
 use Rattle.commands.specs.declared.frame_end.FrameEnd.TheVariants as ends
 use Rattle.commands.specs.Handing.{WrotePart}
@@ -29,7 +33,7 @@ use Rattle.joining.specs.declared.plan_task.Lead.{Lead}
 use Rattle.joining.specs.declared.plan_task.Plan.{Plan}
 use Rattle.joining.specs.declared.renditions.Renditions.{Renditions}
 use Rattle.joining.specs.Refusals.{refusal_of_splice, IsEndOf}
-use Rattle.joining.specs.Renditions.{PieceAt, asked_at, run_at, next_at, BreaksRule, LacksPiece, RenditionStands, StopsBy, ChecksFrame, GivesEnd}
+use Rattle.joining.specs.Renditions.{PieceAt, asked_at, run_at, next_place, next_at, BreaksRule, LacksPiece, RenditionStands, StopsBy, ChecksFrame, GivesEnd}
 use Rattle.joining.specs.Planning.{turns, no_lead, lead_behind, lead_of, lead_at, line_of, TellsPiece, planning, PlanStands}
 
 -- ---- one frame more
@@ -133,7 +137,7 @@ module _ (d : Definitions) (at : PieceAt) (before : List Frame) (f : Frame) (con
   plan_stands old new t was is now =
       now ∙ (ap (λ (l : Lead). lead_behind l t) was ∙ (ap (lead_behind (lead_at at before)) (is ∙ turn_there) ∙ sym (lead_at_push at before f)))
 
-pub plan_memory : (d : Definitions) (at : PieceAt) (before : List Frame) (f : Frame) (m : Meaning) (w : Option (List ℕ)) (x : _) → Handles (planning d at) before f m m w w (Err (ends.Memory x))
+pub plan_memory : (d : Definitions) (at : PieceAt) (before : List Frame) (f : Frame) (m : Meaning) (w : Option (List ℕ)) (x : AllocError) → Handles (planning d at) before f m m w w (Err (ends.Memory x))
 plan_memory d at before f m w x = inr (record { fed = omega arith; written = (0, append-none w) })
 
 -- ---- the end of a rendition
@@ -172,3 +176,33 @@ module _ (at : PieceAt) (frames : List Frame) (task : Plan) (st : PlanStands at 
   plan_refused w ends.WriteFault e is stop = absurd stop
   plan_refused w ends.CoreFault e is stop = absurd stop
   plan_refused w (ends.Memory x) e is stop = inr refl
+
+-- ---- the next rendition
+
+place_within : (place : ℕ) (positions : List ℕ) → place < length positions → next_place place positions < length positions
+place_within place positions lt = by_test (nat_lt (place + 1) (length positions)) refl
+  where
+    by_test : (b : Bool) → nat_lt (place + 1) (length positions) ≡ b → (if b then place + 1 else place) < length positions
+    by_test true e = ltb-true (place + 1) (length positions) e
+    by_test false e = lt
+
+pub rendition_next : (at : PieceAt) (frames : List Frame) (old new : Renditions) → RenditionStands at frames old
+    → new.run ≡ new_run (asked_at (record { positions = old.positions.items; place = next_place old.place old.positions.items; before = old.run.first })) → new.positions ≡ old.positions → new.place ≡ next_place old.place old.positions.items
+    → RenditionStands (next_at at frames) [] new
+rendition_next at frames old new st run positions place =
+    let first : old.run.first ≡ stream_config (map coded frames) = ap (λ (v : RunValue). v.first) st.run ∙ holds_last_units.first (asked_at at) (map coded frames) in
+    let same : next_place old.place old.positions.items ≡ next_place at.place at.positions = ap (λ (k : ℕ). next_place k old.positions.items) st.place ∙ ap (next_place at.place) st.positions in
+    let there : PieceAt = record { positions = old.positions.items; place = next_place old.place old.positions.items; before = old.run.first } in
+    let is : there ≡ next_at at frames =
+    ap (λ (xs : List ℕ). let x : PieceAt = record { positions = xs; place = next_place old.place old.positions.items; before = old.run.first } in x) st.positions
+    ∙ (ap (λ (k : ℕ). let x : PieceAt = record { positions = at.positions; place = k; before = old.run.first } in x) same
+    ∙ ap (λ (o : Option UsacConfig). let x : PieceAt = record { positions = at.positions; place = next_place at.place at.positions; before = o } in x) first) in
+    record {
+      positions = ap (λ v. v.items) positions ∙ st.positions;
+      place = place ∙ same;
+      within = place_within at.place at.positions st.within;
+      few = st.few;
+      run = run ∙ ap (λ (x : PieceAt). new_run (asked_at x)) is;
+      number = ap (λ (v : RunValue). v.frames) run;
+      going = ap (λ (v : RunValue). v.ended) run;
+    }

@@ -1,5 +1,5 @@
 -- Each rule of pieces is a refusal: none of them is want of memory.
-use Rattle.std.proofs.Common.{◌≡◌, ℕ, Bool, true, false, List, Option, Some, None, Result, Ok, Err, refl, sym, ◌∙◌, subst}
+use Rattle.std.proofs.Common.{◌≡◌, ℕ, Bool, true, false, List, [], ◌∷◌, length, Option, Some, None, Result, Ok, Err, refl, sym, ◌∙◌, subst}
 use Rattle.std.specs.Prelude.{◌/◌, ◌%◌, ◌==◌, ◌&&◌, nat_lt, is_some, if◌then◌else◌}
 use Rattle.std.specs.Option.{option_map_or}
 use Rattle.usac_cfg.specs.declared.usac_config.UsacConfig.{UsacConfig}
@@ -128,7 +128,7 @@ carry_told n (Err e) h = h n
 
 level_told : (k : ℕ) (b : Option UsacConfig) (c : UsacConfig) → IsTold (level_rule k b c)
 level_told k None c = tt
-level_told k (Some b) c = or_told _ _ (not_told (rate b == rate c) (splices.Plan (plans.RateDiffers k)) (_, refl)) (not_told (channels b == channels c) (splices.Plan (plans.ChannelsDiffer k)) (_, refl))
+level_told k (Some b) c = or_told (fault_if_not (rate b == rate c) (splices.Plan (plans.RateDiffers k))) (fault_if_not (channels b == channels c) (splices.Plan (plans.ChannelsDiffer k))) (not_told (rate b == rate c) (splices.Plan (plans.RateDiffers k)) (_, refl)) (not_told (channels b == channels c) (splices.Plan (plans.ChannelsDiffer k)) (_, refl))
 
 foreign_told : (n : ℕ) (o : Option ℕ) → IsTold (foreign_rule n o)
 foreign_told n None = tt
@@ -143,7 +143,7 @@ short_told n None = tt
 short_told n (Some at) = (_, refl)
 
 carried_rule_told : (n need : ℕ) (before : List UnitValue) (q : Result Carried CarryFault) → AreCarriedTold q → IsTold (carried_rule n need before q)
-carried_rule_told n need before (Ok k) h = if_told _ _ _ (_, refl) (foreign_told n (foreign before k.units))
+carried_rule_told n need before (Ok k) h = if_told (nat_lt (length k.units) need) (Some (splices.TooFew n (length k.units) need)) (foreign_rule n (foreign before k.units)) (_, refl) (foreign_told n (foreign before k.units))
 carried_rule_told n need before (Err e) h = h n
 
 start_told : (f : Coded) → IsTold (start_rule f)
@@ -182,11 +182,11 @@ frame_told v need f = by_first v.first
         or_told (opening_rule v.asked f.config) _ (opening_told v.asked f.config)
         (or_told (short_rule 0 (short_at f.config f.au)) _ (short_told 0 (short_at f.config f.au))
         (or_told (start_rule f) _ (start_told f)
-        (if_told _ _ None (join_told v.asked.before 0 need (units_in (carried_in f.config f.au)) f.config (carried_in f.config f.au) (carried_told f.config f.au)) tt)))
+        (if_told ((from_of v.asked f.config == 0) && is_some v.asked.before) (join_rule v.asked.before 0 need (units_in (carried_in f.config f.au)) f.config (carried_in f.config f.au)) None (join_told v.asked.before 0 need (units_in (carried_in f.config f.au)) f.config (carried_in f.config f.au) (carried_told f.config f.au)) tt)))
     by_first (Some first) =
         or_told (change_rule first v.frames f.config) _ (not_told (same first f.config) (splices.ConfigChanges v.frames) (_, refl))
         (or_told (short_rule v.frames (short_at f.config f.au)) _ (short_told v.frames (short_at f.config f.au))
-        (if_told _ _ None (join_told v.asked.before v.frames need v.kept f.config (carried_in f.config f.au) (carried_told f.config f.au)) tt))
+        (if_told (from_of v.asked f.config == v.frames) (join_rule v.asked.before v.frames need v.kept f.config (carried_in f.config f.au)) None (join_told v.asked.before v.frames need v.kept f.config (carried_in f.config f.au) (carried_told f.config f.au)) tt))
 
 -- a rendition that lacks its piece is refused
 abbrev pub IsEndTold : Result Piece SpliceFault → Type 0
@@ -202,8 +202,8 @@ end_told v going = subst (λ (b : Bool). IsEndTold (if b then Err splices.Ended 
   where
     by_to : (from : ℕ) (to : Option ℕ) → IsEndTold (piece_to v.asked from to v.frames)
     by_to from None = tt
-    by_to from (Some to) = if_end_told (nat_lt v.frames to) _ _ (_, refl) tt
+    by_to from (Some to) = if_end_told (nat_lt v.frames to) (Err (splices.Plan (plans.PastEnd v.asked.piece))) (Ok (record { from = from; to = to })) (_, refl) tt
 
     by_first : (o : Option UsacConfig) → IsEndTold (piece_of v.asked o v.frames)
     by_first None = (_, refl)
-    by_first (Some first) = if_end_told (nat_lt (from_of v.asked first) v.frames) _ _ (by_to (from_of v.asked first) (to_of v.asked first)) (_, refl)
+    by_first (Some first) = if_end_told (nat_lt (from_of v.asked first) v.frames) (piece_to v.asked (from_of v.asked first) (to_of v.asked first) v.frames) (Err (splices.Plan (plans.PastEnd v.asked.piece))) (by_to (from_of v.asked first) (to_of v.asked first)) (_, refl)

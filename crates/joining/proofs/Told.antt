@@ -139,8 +139,8 @@ module _ (d : Definitions) where
 
   -- What the walk says of the files from there on.
   pub record Walked (P : Option Event → Type 0) (at : PieceAt) (ats : List ℕ) (scripts : List FileScript) (t : Traces) : Type 0 where
-    says : P (files_event d.warm at.place at.before ats scripts)
-    wrote : WroteBytes t (files_lines d.warm at.place at.before ats scripts)
+    pub says : P (files_event d.warm at.place at.before ats scripts)
+    pub wrote : WroteBytes t (files_lines d.warm at.place at.before ats scripts)
 
   -- the first file ends the walk by that event
   ends_walk : (at : PieceAt) (x : ℕ) (ats : List ℕ) (s : FileScript) (ss : List FileScript) (t : Traces) (P : Option Event → Type 0) (e : Event) → Comes at (x ∷ ats) → file_event d.warm (asked_at at) s ≡ Some e

@@ -1,5 +1,5 @@
 // Renditions one after another, each with the piece that is wanted of it.
-ghost use Rattle.std.specs.Prelude.{◌≡◌, ◌<◌, ◌≤◌, ◌^◌, None, length};
+ghost use Rattle.std.specs.Prelude.{◌≡◌, ◌<◌, ◌≤◌, ◌^◌, None, false, length};
 ghost use Rattle.usac_cfg.specs.UsacConfig.{IsWellFormed};
 ghost use Rattle.splicer.specs.Runs.{new_run};
 ghost use Rattle.joining.specs.Renditions.{position_at, asked_at, ChecksFrame, GivesEnd, next_place};

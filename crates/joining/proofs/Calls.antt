@@ -1,4 +1,4 @@
--- A call that begins no file.
+-- Calls of `plan`: those that begin no file, and those on files.
 use Rattle.std.proofs.Common.{◌≡◌, ℕ, List, [], false, Option, Some, None, Result, Ok, Err, refl, subst, arith, inr}
 use Rattle.std.specs.Prelude.{◌≢◌}
 use Rattle.timeline.specs.declared.fault.PlanFault.{PlanFault}
@@ -7,6 +7,7 @@ use Rattle.core_iface.specs.Decoding.{Definitions}
 use Rattle.tool_text.specs.declared.refusal.Refusal.{Refusal}
 use Rattle.tool_text.specs.declared.refusal.Within.{Within}
 use Rattle.tool_text.specs.declared.refusal.Within.TheVariants as inputs
+use Rattle.std.specs.declared.alloc.AllocError.{AllocError}
 use Rattle.commands.specs.declared.outcome.Outcome.{Outcome}
 use Rattle.commands.specs.declared.outcome.Outcome.TheVariants as is
 use Rattle.commands.specs.Calling.{Effect, Called}
@@ -76,12 +77,19 @@ module _ {H K C : Type 0} (d : Definitions) (positions : List ℕ) (names : List
   -- the positions do not rise
   pub refused_called : (fault : PlanFault) (o : Outcome) → Err fault ≡ order_result positions → IsRefusedBy (Some (inputs.Piece (piece_in fault))) (refusal_of_plan fault) o → Called (plans_files d positions) names w w o
   refused_called fault o is why = subst (λ (q : Result (Unit {0}) PlanFault). Called (effect_at q) names w w o) is
-      (idle_called (effect_at (Err fault)) names w o (refused_idle _ _ o why) (λ texts. (refl, record { written = refl; fed = refl }, why)))
+      (let e = effect_at (Err fault) in idle_called e names w o (refused_idle (Some (inputs.Piece (piece_in fault))) (refusal_of_plan fault) o why) (λ texts. (refl, record { written = refl; fed = refl }, why)))
 
   -- there was no memory
-  pub memory_called : (e : _) → Called (plans_files d positions) names w w (is.Memory e)
+  pub memory_called : (e : AllocError) → Called (plans_files d positions) names w w (is.Memory e)
   memory_called e = by_order (order_result positions)
     where
       by_order : (q : Result (Unit {0}) PlanFault) → Called (effect_at q) names w w (is.Memory e)
       by_order (Err fault) = idle_called (effect_at (Err fault)) names w (is.Memory e) tt (λ texts. (refl, record { written = refl; fed = refl }, tt))
       by_order (Ok x) = idle_called (effect_at (Ok x)) names w (is.Memory e) tt (λ texts. (record { written = refl; fed = refl }, inr tt))
+
+-- the positions rise
+pub ordered_called : {H K C : Type 0} (d : Definitions) (positions xs : List ℕ) (names : List (List ℕ)) (w v : World H K C) (o : Outcome) → Ok tt ≡ order_result positions → xs ≡ positions
+    → Called (on_inputs (several (planning d) next_at false) (first_at xs)) names w v o → Called (plans_files d positions) names w v o
+ordered_called d positions xs names w v o rise same called =
+    subst (λ (q : Result (Unit {0}) PlanFault). Called (where_ordered q (on_inputs (several (planning d) next_at false) (first_at positions))) names w v o) rise
+    (subst (λ (ys : List ℕ). Called (on_inputs (several (planning d) next_at false) (first_at ys)) names w v o) same called)
