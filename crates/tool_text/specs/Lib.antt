@@ -6,5 +6,6 @@ pub mod MuxText
 pub mod FrameText
 pub mod PreRollText
 pub mod CheckText
+pub mod PieceText
 pub mod RefusalText
 pub mod Faults

@@ -63,6 +63,14 @@ reason_text (reasons.Nested unit) = codes "nested preroll in unit " & decimal un
 reason_text reasons.FirstDependent = codes "first unit not independent"
 reason_text (reasons.TooFew have need) = codes "too few units: " & decimal have & codes " of " & decimal need
 reason_text reasons.PastEnd = codes "past end"
+reason_text reasons.SameConfig = codes "same configuration"
+reason_text (reasons.PrerollForeign unit) = codes "foreign preroll unit " & decimal unit
+reason_text reasons.ConfigChanges = codes "configuration changes"
+reason_text reasons.TooLong = codes "too long"
+reason_text reasons.PositionsFall = codes "positions do not rise"
+reason_text (reasons.NoFrameAt position) = codes "no frame at " & decimal position
+reason_text reasons.RateDiffers = codes "rate differs"
+reason_text reasons.ChannelsDiffer = codes "channels differ"
 
 -- the whole line, with its line feed
 abbrev pub refusal_text : Option Within → Refusal → List ℕ

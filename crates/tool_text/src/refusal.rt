@@ -92,4 +92,20 @@ pub enum Reason {
     TooFew { have: u32, need: u32 },
     /// The stream ends before the frame, or the position, that is asked for.
     PastEnd,
+    /// A piece would be joined to one of the same UsacConfig.
+    SameConfig,
+    /// The access unit of that number in the preroll is not the one that the stream has in its place before the frame.
+    PrerollForeign { unit: u32 },
+    /// The frame has another UsacConfig than frame 0.
+    ConfigChanges,
+    /// The element that is to carry the frame would have more than 8191 bytes, the most that the header of its LOAS frame counts.
+    TooLong,
+    /// The position of the piece is not larger than that of the piece before.
+    PositionsFall,
+    /// No frame of the stream begins at the position: it is no multiple of the frame length.
+    NoFrameAt { position: u64 },
+    /// The stream has another rate than that of the piece before.
+    RateDiffers,
+    /// The stream has another number of output channels than that of the piece before.
+    ChannelsDiffer,
 }

@@ -173,6 +173,74 @@ const REFUSALS: &[(Place, Reason, &str)] = &[
         "refused: frame 7: too few units: 2 of 18\n",
     ),
     (Place::Whole, Reason::PastEnd, "refused: past end\n"),
+    (
+        FRAME,
+        Reason::SameConfig,
+        "refused: frame 7: same configuration\n",
+    ),
+    (
+        FRAME,
+        Reason::PrerollForeign { unit: 17 },
+        "refused: frame 7: foreign preroll unit 17\n",
+    ),
+    (
+        FRAME,
+        Reason::ConfigChanges,
+        "refused: frame 7: configuration changes\n",
+    ),
+    (FRAME, Reason::TooLong, "refused: frame 7: too long\n"),
+    (
+        Place::Whole,
+        Reason::PositionsFall,
+        "refused: positions do not rise\n",
+    ),
+    (
+        Place::Whole,
+        Reason::NoFrameAt { position: 4000 },
+        "refused: no frame at 4000\n",
+    ),
+    (Place::Whole, Reason::RateDiffers, "refused: rate differs\n"),
+    (
+        Place::Whole,
+        Reason::ChannelsDiffer,
+        "refused: channels differ\n",
+    ),
+];
+
+const FRAME_OF_PIECE: Place = Place::Frame(4);
+
+/// A piece, a place in its file, a reason, and the line of their refusal.
+const REFUSALS_OF_PIECES: &[(u64, Place, Reason, &str)] = &[
+    (
+        1,
+        Place::Whole,
+        Reason::PositionsFall,
+        "refused: piece 1: positions do not rise\n",
+    ),
+    (
+        1,
+        FRAME_OF_PIECE,
+        Reason::SameConfig,
+        "refused: piece 1: frame 4: same configuration\n",
+    ),
+    (
+        0,
+        Place::Whole,
+        Reason::NoFrameAt { position: 4000 },
+        "refused: piece 0: no frame at 4000\n",
+    ),
+    (
+        1,
+        FRAME_OF_PIECE,
+        Reason::PrerollForeign { unit: 0 },
+        "refused: piece 1: frame 4: foreign preroll unit 0\n",
+    ),
+    (
+        1,
+        Place::Whole,
+        Reason::PastEnd,
+        "refused: piece 1: past end\n",
+    ),
 ];
 
 #[test]
@@ -183,6 +251,19 @@ fn each_reason_has_its_line(rt: HostRuntime) -> Result<(), Fail> {
             reason: *reason,
         };
         let line = refusal_line(rt.alloc(), None, &refusal)?;
+        assert_eq!(rt; line.as_slice(), wanted.as_bytes(), "{wanted}");
+    }
+    Ok(())
+}
+
+#[test]
+fn pieces_are_refused(rt: HostRuntime) -> Result<(), Fail> {
+    for (piece, place, reason, wanted) in REFUSALS_OF_PIECES {
+        let refusal = Refusal {
+            place: *place,
+            reason: *reason,
+        };
+        let line = refusal_line(rt.alloc(), Some(Within::Piece(*piece)), &refusal)?;
         assert_eq!(rt; line.as_slice(), wanted.as_bytes(), "{wanted}");
     }
     Ok(())

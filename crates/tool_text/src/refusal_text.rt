@@ -83,6 +83,14 @@ fn reason_text(alloc: Global, reason: Reason) -> Result<String, AllocError>
         Reason::FirstDependent => format!(in alloc; "first unit not independent"),
         Reason::TooFew { have, need } => format!(in alloc; "too few units: {have} of {need}"),
         Reason::PastEnd => format!(in alloc; "past end"),
+        Reason::SameConfig => format!(in alloc; "same configuration"),
+        Reason::PrerollForeign { unit } => format!(in alloc; "foreign preroll unit {unit}"),
+        Reason::ConfigChanges => format!(in alloc; "configuration changes"),
+        Reason::TooLong => format!(in alloc; "too long"),
+        Reason::PositionsFall => format!(in alloc; "positions do not rise"),
+        Reason::NoFrameAt { position } => format!(in alloc; "no frame at {position}"),
+        Reason::RateDiffers => format!(in alloc; "rate differs"),
+        Reason::ChannelsDiffer => format!(in alloc; "channels differ"),
     }
 }
 

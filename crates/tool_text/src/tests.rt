@@ -3,7 +3,8 @@ ghost use Rattle.usac_cfg.specs.UsacConfig.{IsWellFormed as IsUsacWellFormed};
 ghost use Rattle.asc.specs.Asc.{IsWellFormed};
 
 use crate::{
-    bad_preroll_line, check_line, configuration_lines, frame_line, mux_lines, preroll_lines,
+    bad_preroll_line, check_line, configuration_lines, frame_line, mux_lines, piece_line,
+    preroll_lines,
 };
 use asc::Asc;
 use bit_core::{BitReader, Bits, Items, Octets};
@@ -257,5 +258,16 @@ fn prerolls_have_their_lines(rt: HostRuntime) -> Result<(), Fail> {
     let checked = check_line(alloc, 8, 2, 3, 1)?;
     let wanted = b"frames 8, configurations 2, independent 3, immediate 1\n";
     assert_eq!(rt; checked.as_slice(), wanted.as_slice());
+    Ok(())
+}
+
+#[test]
+fn pieces_have_their_lines(rt: HostRuntime) -> Result<(), Fail> {
+    let first = piece_line(rt.alloc(), 0, 0, 4, 0, true)?;
+    let wanted = b"piece 0 frames 0 to 4 carried 0 fade 1\n";
+    assert_eq!(rt; first.as_slice(), wanted.as_slice());
+    let second = piece_line(rt.alloc(), 1, 4, 8, 1, false)?;
+    let wanted = b"piece 1 frames 4 to 8 carried 1 fade 0\n";
+    assert_eq!(rt; second.as_slice(), wanted.as_slice());
     Ok(())
 }
