@@ -10,5 +10,6 @@ pub mod Gathering
 pub mod Marks
 pub mod SegmentLists
 pub mod Written
+pub mod Canonical
 pub mod Held
 pub mod Views
