@@ -1,14 +1,13 @@
 -- The bytes of the canonical element.
-use Rattle.std.proofs.Common.{◌≡◌, ℕ, ◌+◌, ◌-◌, ◌*◌, ◌/◌, ◌%◌, ◌<◌, ◌≤◌, Bool, false, true, List, ◌++◌, length, replicate, get_or, Option, Result, Ok, Err, All, refl, sym, ap, ◌∙◌, arith}
+use Rattle.std.proofs.Common.{◌≡◌, ℕ, ◌+◌, ◌-◌, ◌%◌, ◌<◌, ◌≤◌, Bool, false, List, length, replicate, get_or, Option, Ok, Err, All, refl, ap, ◌∙◌, arith}
 use Rattle.std.proofs.Common.{Fits, w8}
 use Rattle.std.proofs.lemmas.List.{length-append, length-replicate, get_or_default}
 use Rattle.layout.specs.Text.{bits_of, pad}
-use Rattle.layout.proofs.TextLemmas.{length-bits_of}
 use Rattle.asc.specs.declared.asc_config.Asc.{Asc}
-use Rattle.loas.specs.Framing.{header, framed}
+use Rattle.loas.specs.Framing.{framed}
 use Rattle.latm.specs.declared.fault.WriteFault.{WriteFault}
 use Rattle.latm.specs.Bytes.{bytes_of}
-use Rattle.latm.specs.Written.{is_memory, element_text, canonical_element, canonical_text, canonical_length, canonical_bytes, WritesCanonical}
+use Rattle.latm.specs.Written.{is_memory, element_text, canonical_element, canonical_text, canonical_length, canonical_bytes, IsCanonical, WritesCanonical}
 use Rattle.latm.proofs.ByteTexts.{length-bytes_of, bits_of-bytes_of, bytes_back}
 
 length-pad : (text : List Bool) → length (pad text) % 8 ≡ 0
@@ -46,14 +45,7 @@ canonical_over v au over = text_over (canonical_text v au) (whole_text v au) ove
 pub canonical_refused : (v : Option Asc) (au : List ℕ) (f : WriteFault) → (is_memory f ≡ false → 65528 < length (canonical_text v au)) → WritesCanonical v au (Err f)
 canonical_refused v au f over = record { ok = tt; err = λ e. canonical_over v au (over e) }
 
--- the body of the frame, and its bits
-pub record Body (v : Option Asc) (au frame : List ℕ) : Type 0 where
-  pub body : List ℕ
-  pub count : length body ≡ canonical_length v au
-  pub is : frame ≡ framed body
-  pub spelled : bits_of body ≡ canonical_text v au
-
-pub canonical_body : (v : Option Asc) (au : List ℕ) → Body v au (canonical_bytes v au)
+pub canonical_body : (v : Option Asc) (au : List ℕ) → IsCanonical v au (canonical_bytes v au)
 unfolding canonical_length canonical_bytes
 canonical_body v au = record {
   body = bytes_of (canonical_text v au);

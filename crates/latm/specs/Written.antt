@@ -62,6 +62,13 @@ canonical_length v au = length (bytes_of (canonical_text v au))
 unfoldable pub canonical_bytes : Option Asc → List ℕ → List ℕ
 canonical_bytes v au = framed (bytes_of (canonical_text v au))
 
+-- The bytes are the LOAS frame of a body that the canonical text is the bits of.
+pub record IsCanonical (v : Option Asc) (au frame : List ℕ) : Type 0 where
+  pub body : List ℕ
+  pub count : length body ≡ canonical_length v au
+  pub is : frame ≡ framed body
+  pub spelled : bits_of body ≡ canonical_text v au
+
 -- These bytes are written where the element has at most 8191; too long is answered exactly where it has more, unless memory
 -- fails.
 pub record WritesCanonical (v : Option Asc) (au : List ℕ) (result : Result (List ℕ) WriteFault) : Type 0 where
