@@ -1,10 +1,8 @@
 -- What is handed on in the canonical mux is read again.
-use Rattle.std.proofs.Common.{◌≡◌, ℕ, zero, suc, ◌+◌, ◌-◌, ◌%◌, ◌<◌, ◌≤◌, Bool, true, false, List, [], ◌∷◌, ◌++◌, length, replicate, Option, Some, None, All, refl, sym, ap, subst, ◌∙◌, append_assoc, arith}
+use Rattle.std.proofs.Common.{◌≡◌, ℕ, suc, ◌-◌, ◌%◌, ◌<◌, ◌≤◌, Bool, false, List, [], ◌∷◌, ◌++◌, length, replicate, Option, Some, None, All, refl, sym, ap, subst, ◌∙◌, append_assoc, arith}
 use Rattle.std.specs.Prelude.{is_some}
-use Rattle.std.specs.List.{AllByRecursion}
 use Rattle.layout.specs.Layout.{FitsOption}
 use Rattle.layout.specs.Text.{bits_of}
-use Rattle.bit_core.specs.Plain.{bits}
 use Rattle.asc.specs.declared.asc_config.Asc.{Asc}
 use Rattle.asc.specs.Asc.{IsWellFormed}
 use Rattle.latm.specs.declared.mux_config.MuxConfig.{MuxConfig}
