@@ -3,6 +3,7 @@ pub mod Runs
 pub mod FrameLists
 pub mod Counting
 pub mod Scripts
+pub mod Ahead
 pub mod Steps
 pub mod Small
 pub mod FrameCounts
