@@ -3,6 +3,7 @@ pub mod Runs
 pub mod FrameLists
 pub mod Counting
 pub mod Scripts
+pub mod Ahead
 pub mod Steps
 pub mod Small
 pub mod FrameCounts
@@ -10,5 +11,6 @@ pub mod Gathering
 pub mod Marks
 pub mod SegmentLists
 pub mod Written
+pub mod Canonical
 pub mod Held
 pub mod Views

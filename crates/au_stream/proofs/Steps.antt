@@ -25,6 +25,7 @@ use Rattle.au_stream.specs.Reading.{Reading, pending_frames, KnowsChange, Holds,
 use Rattle.au_stream.specs.Giving.{Tells, refused_element, TookElement, Unread, Gave, weight}
 use Rattle.au_stream.specs.Taking.{Seen, Takes}
 use Rattle.au_stream.specs.Events.{IsEvent, Answers, GivenBy, Reads}
+use Rattle.au_stream.proofs.Ahead.{ahead_next}
 use Rattle.au_stream.proofs.Counting.{some_in_force, slots_fit}
 use Rattle.au_stream.proofs.FrameLists.{frames-push, last-push}
 use Rattle.au_stream.proofs.Runs.{carries_more, carries_push, in_force-push}
@@ -84,9 +85,8 @@ change_known before own (Some n) m opens last (au ∷ slots) changed is there e 
     changes_first before own m last (record { mux = n; opens = opens; au = au }) changed there same e c
 
 -- an element was read
-pub took : (got : List ℕ) (given : List Frame) (n : ℕ) (r new : Reading) → HasRead got given r → r.pending ≡ [] → BeginsWithFrame n r.framer.held → TookElement n r new → Holds got given new × (0 < length new.pending)
-took got given n r new h none b t =
-    let s = h.holds in
+pub took : (got : List ℕ) (given : List Frame) (n : ℕ) (r new : Reading) → Holds got given r → r.in_force ≡ option_map (λ f. f.mux) (last_of given) → r.pending ≡ [] → BeginsWithFrame n r.framer.held → TookElement n r new → Holds got given new × (0 < length new.pending)
+took got given n r new s last none b t =
     let e = t.element in
     let body = take n (drop 3 r.framer.held) in
     let behind = drop (3 + n) r.framer.held in
@@ -111,7 +111,7 @@ took got given n r new h none b t =
         in_force = force_is ∙ ap (λ (m : Option MuxConfig). then_in_force m e.config) s.in_force ∙ sym (in_force-push None s.elements e);
         some = λ never. absurd (let x : None ≡ Some there.0 = sym never ∙ force_is ∙ there.1 in cc);
         frames = frames-push None s.elements e ∙ ap (λ (x : List Frame). x ++ frames_under (then_in_force (in_force_behind None s.elements) e.config) (is_some e.config) e.slots) old_frames ∙ ap (λ (x : List Frame). given ++ x) new_frames;
-        change = change_known r.in_force e.config new.in_force there.0 new.opens (last_of given) new.pending new.changed force_is there.1 h.last t.changed;
+        change = change_known r.in_force e.config new.in_force there.0 new.opens (last_of given) new.pending new.changed force_is there.1 last t.changed;
         counted = ap (λ (x : Reading). x.count) t.held ∙ s.counted;
         pushed = omega (arith, passed_is, ap (λ (x : List ℕ). length x) held_is, length-drop (3 + n) r.framer.held, b.long, s.pushed);
         few = s.few;
@@ -130,8 +130,8 @@ pub record Given (got : List ℕ) (given : List Frame) (r new : Reading) (event 
   pub behind : List Frame
   pub all : frames_from None read.holds.elements ≡ given ++ frame ∷ behind
 
-pub gives : (got : List ℕ) (given : List Frame) (r new : Reading) (event : Event) → Holds got given r → Gave r new event → Given got given r new event
-gives got given r new event h g = go r.in_force refl
+pub gives : (got : List ℕ) (given : List Frame) (r new : Reading) (event : Event) → Holds got given r → length r.framer.held < 8192 → Gave r new event → Given got given r new event
+gives got given r new event h ahead g = go r.in_force refl
   where
     none_left : (m : MuxConfig) (f : Frame) (slots : List (List ℕ)) → f.mux ≡ m → KnowsChange (Some f) (frames_under (Some m) false slots) false
     none_left m f [] is = tt
@@ -173,6 +173,7 @@ gives got given r new event h g = go r.in_force refl
               going = ap (λ (x : Reading). x.failed) g.left ∙ h.going;
             };
             last = force_is ∙ sym (ap (λ (l : Option Frame). option_map (λ (x : Frame). x.mux) l) (last-push given f));
+            ahead = omega (arith, ahead, ap (λ (x : Reading). length x.framer.held) g.left);
           };
           behind = frames_under (Some m) false g.rest;
           all = all;
@@ -194,7 +195,7 @@ next_is got rest given r new event g =
 -- an access unit of the element that was read before
 pub reads_pending : (got : List ℕ) (given : List Frame) (r new : Reading) (at : Seen) (event : Event) → HasRead got given r → Gave r new event → Reads got given r new at at (Ok (Some event))
 reads_pending got given r new at event h g =
-    let p = gives got given r new event h.holds g in
+    let p = gives got given r new event h.holds h.ahead g in
     record {
       more = [];
       from = prepend-none at.left;
@@ -211,9 +212,12 @@ pub reads_next : (got : List ℕ) (given : List Frame) (r mid new : Reading) (fr
     → TookElement n (record r { framer = framer }) mid → Gave mid new event → Reads got given r new before now (Ok (Some event))
 reads_next got given r mid new framer before now n event h none t limit took_is g =
     let more = t.got in
-    let here : HasRead (got ++ more) given (record r { framer = framer }) = record { holds = held_more got more given r framer h.holds t.answered.0 limit; last = h.last } in
-    let k = took (got ++ more) given n (record r { framer = framer }) mid here none t.answered.1 took_is in
-    let p = gives (got ++ more) given mid new event k.0 g in
+    let here = held_more got more given r framer h.holds t.answered.0 limit in
+    let k = took (got ++ more) given n (record r { framer = framer }) mid here h.last none t.answered.1 took_is in
+    let held_is : framer.held ≡ r.framer.held ++ more = ap (λ (x : Framer). x.held) t.answered.0 in
+    let behind : length (drop (3 + n) (r.framer.held ++ more)) < 8192 = ahead_next r.framer.held more n t.needed h.ahead (subst (λ (x : List ℕ). BeginsWithFrame n x) held_is t.answered.1) in
+    let ahead : length mid.framer.held < 8192 = omega (arith, behind, ap (λ (x : Reading). length x.framer.held) took_is.held, ap (λ (x : List ℕ). length (drop (3 + n) x)) held_is) in
+    let p = gives (got ++ more) given mid new event k.0 ahead g in
     record {
       more = more;
       from = t.from;
@@ -244,7 +248,7 @@ reads_end got given r framer before now h none t limit =
       ended = true;
       at_end = λ e. t.answered.2;
       answers = λ rest e. subst (λ (x : List ℕ). IsScript x given End) (sym (ap (λ (y : List ℕ). (got ++ more) ++ y) (e refl) ∙ append-nil (got ++ more))) end;
-      leaves = record { holds = s; last = h.last };
+      leaves = record { holds = s; last = h.last; ahead = omega (arith, ap (λ (x : List ℕ). length x) t.answered.1) };
     }
 
 -- a fault of the element

@@ -37,7 +37,7 @@ AreBytes xs = All (λ byte. byte < 256) xs
 
 -- ---- bytes by their bits
 
-bytes_fit : (xs : List ℕ) → AreBytes xs → AllByRecursion (bits 8).Fits xs
+pub bytes_fit : (xs : List ℕ) → AreBytes xs → AllByRecursion (bits 8).Fits xs
 bytes_fit [] h = tt
 bytes_fit (x ∷ xs) h = ((h 0 0 (omega arith), refl), bytes_fit xs (λ i d lt. h (suc i) d (omega arith)))
 

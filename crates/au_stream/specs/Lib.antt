@@ -12,3 +12,4 @@ pub mod Gathering
 pub mod Whole
 pub mod Pairs
 pub mod Written
+pub mod Canonical

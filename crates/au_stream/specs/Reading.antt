@@ -1,5 +1,5 @@
 -- What a reader of access units holds, and what it has given.
-use Rattle.std.specs.Prelude.{◌≡◌, ℕ, ◌≤◌, Bool, false, List, [], ◌∷◌, ◌++◌, length, Option, None}
+use Rattle.std.specs.Prelude.{◌≡◌, ℕ, ◌<◌, ◌≤◌, Bool, false, List, [], ◌∷◌, ◌++◌, length, Option, None}
 use Rattle.std.specs.Option.{option_map}
 use Rattle.latm.specs.declared.mux_config.MuxConfig.{MuxConfig}
 use Rattle.latm.specs.declared.mux_element.MuxElement.{MuxElement}
@@ -49,3 +49,5 @@ pub record Holds (got : List ℕ) (given : List Frame) (r : Reading) : Type 0 wh
 pub record HasRead (got : List ℕ) (given : List Frame) (r : Reading) : Type 0 where
   pub holds : Holds got given r
   pub last : r.in_force ≡ option_map (λ f. f.mux) (last_of given)
+  -- fewer bytes than one read may bring were got behind the elements that were read
+  pub ahead : length r.framer.held < 8192

@@ -12,10 +12,12 @@ ghost use Rattle.latm.specs.declared.stream.Stream.{Stream};
 ghost use Rattle.latm.specs.Faults.{is_memory};
 ghost use Rattle.latm.specs.MuxElement.{element};
 ghost use Rattle.latm.specs.Stream.{IsWellFormed, slots_from};
+ghost use Rattle.asc.specs.declared.asc_config.Asc.{Asc};
+ghost use Rattle.au_stream.specs.Canonical.{Handed, HasFrame, BeginsWith, bytes_of_handed, frames_of_handed};
 ghost use Rattle.au_stream.specs.Elements.{IsElement, Carries};
 ghost use Rattle.au_stream.specs.Frames.{Frame, frames_from};
 ghost use Rattle.au_stream.specs.Pairs.{as_pair};
-ghost use Rattle.au_stream.specs.Script.{Mark, HasFrames, IsScript, most_bytes};
+ghost use Rattle.au_stream.specs.Script.{Mark, End, HasFrames, IsScript, most_bytes};
 ghost use Rattle.au_stream.specs.Whole.{IsStream};
 ghost use Rattle.au_stream.specs.Written.{IsWritten, AreWritten, GivesElement, ReadsElement};
 ghost use Rattle.std.specs.Prelude.{◌≡◌, ◌<◌, ◌≤◌, ◌∷◌, ◌++◌, [], ℕ, List, Option, Result, None, All, length, map};
@@ -57,4 +59,10 @@ pub fn written_frames_are_read_back()
 /// of these elements, and the mark End.
 pub fn written_streams_are_read_back()
     ensures { (stream : Stream) (text : List ℕ) → IsWellFormed stream → AreWritten stream.elements text → length text ≤ most_bytes → IsStream text stream }
+{}
+
+/// Access units that are handed on in the canonical mux, the first with an AudioSpecificConfig, are a stream: its script has
+/// exactly these access units, in order and each under the AudioSpecificConfig that was given last, and the mark End.
+pub fn canonical_frames_are_read_back()
+    ensures { (first : Asc) (handed : List Handed) → BeginsWith first handed → All HasFrame handed → length (bytes_of_handed handed) ≤ most_bytes → IsScript (bytes_of_handed handed) (frames_of_handed first handed) End }
 {}

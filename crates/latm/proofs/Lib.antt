@@ -2,6 +2,8 @@ pub mod RunSteps
 pub mod PairWrites
 pub mod PartWrites
 pub mod SlotWrites
+pub mod ByteTexts
+pub mod CanonicalBytes
 pub mod FrameWrites
 pub mod Streams
 pub mod ReadBack

@@ -7,4 +7,5 @@ pub mod MuxElement
 pub mod MuxElementExact
 pub mod Places
 pub mod Stream
+pub mod Bytes
 pub mod Written

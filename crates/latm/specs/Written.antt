@@ -2,12 +2,13 @@
 use Rattle.std.specs.Prelude.{◌≡◌, ℕ, ◌/◌, ◌<◌, ◌≤◌, Bool, true, false, List, [], ◌∷◌, ◌++◌, length, Option, Some, None, Result, IfOk, IfErr}
 use Rattle.layout.specs.Text.{bits_of, pad}
 use Rattle.asc.specs.declared.asc_config.Asc.{Asc}
-use Rattle.loas.specs.Framing.{header}
+use Rattle.loas.specs.Framing.{header, framed}
 use Rattle.latm.specs.declared.fault.WriteFault.{WriteFault}
 use Rattle.latm.specs.declared.fault.WriteFault.TheVariants as faults
 use Rattle.latm.specs.declared.mux_config.MuxConfig.{MuxConfig}
 use Rattle.latm.specs.declared.mux_element.MuxElement.{MuxElement}
 use Rattle.latm.specs.MuxElement.{element}
+use Rattle.latm.specs.Bytes.{bytes_of}
 
 abbrev pub is_memory : WriteFault → Bool
 is_memory faults.TooLong = false
@@ -52,3 +53,24 @@ canonical_element v au = record { config = config_of v; slots = au ∷ []; other
 -- with the fewest zero bits that make whole bytes
 abbrev pub canonical_text : Option Asc → List ℕ → List Bool
 canonical_text v au = pad (element_text (canonical_element v au))
+
+-- how many bytes the canonical element has
+unfoldable pub canonical_length : Option Asc → List ℕ → ℕ
+canonical_length v au = length (bytes_of (canonical_text v au))
+
+-- the bytes of its LOAS frame
+unfoldable pub canonical_bytes : Option Asc → List ℕ → List ℕ
+canonical_bytes v au = framed (bytes_of (canonical_text v au))
+
+-- The bytes are the LOAS frame of a body that the canonical text is the bits of.
+pub record IsCanonical (v : Option Asc) (au frame : List ℕ) : Type 0 where
+  pub body : List ℕ
+  pub count : length body ≡ canonical_length v au
+  pub is : frame ≡ framed body
+  pub spelled : bits_of body ≡ canonical_text v au
+
+-- These bytes are written where the element has at most 8191; too long is answered exactly where it has more, unless memory
+-- fails.
+pub record WritesCanonical (v : Option Asc) (au : List ℕ) (result : Result (List ℕ) WriteFault) : Type 0 where
+  pub ok : IfOk result (λ bytes. (bytes ≡ canonical_bytes v au) × (canonical_length v au ≤ 8191))
+  pub err : IfErr result (λ f. is_memory f ≡ false → 8191 < canonical_length v au)

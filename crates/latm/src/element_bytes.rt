@@ -1,10 +1,10 @@
-ghost use Rattle.std.specs.Prelude.{◌≡◌, ◌%◌, ◌<◌, ◌≤◌, ◌++◌, false, length, IfOk, IfErr};
+ghost use Rattle.std.specs.Prelude.{◌≡◌, ◌%◌, ◌<◌, ◌≤◌, ◌++◌, false, length, All, IfOk, IfErr};
 ghost use Rattle.std.specs.Option.{option_copied};
 ghost use Rattle.layout.specs.Layout.{FitsOption};
 ghost use Rattle.layout.specs.Text.{bits_of, pad};
 ghost use Rattle.asc.specs.Asc.{IsWellFormed as IsAscWellFormed};
 ghost use Rattle.latm.specs.MuxConfig.{IsWellFormed};
-ghost use Rattle.latm.specs.Written.{element_text, canonical_config, config_of, canonical_text, Writes, Frames};
+ghost use Rattle.latm.specs.Written.{element_text, canonical_config, config_of, canonical_text, Writes, Frames, WritesCanonical};
 
 use crate::element_writing::{write_fields, write_single};
 use crate::fault::WriteFault;
@@ -100,15 +100,24 @@ fn canonical_body(alloc: Global, asc: Option<&Asc>, au: &[u8]) -> Result<Octets,
     finished(writer)
 }
 
+/// Bytes as they are, for what their type says of them.
+fn in_range(bytes: &[u8]) -> &[u8]
+    ensures same { result.now ≡ bytes.now }
+    ensures range { All (λ byte. byte < 256) result.now }
+{
+    bytes
+}
+
 /// Writes the LOAS frame of one access unit in the canonical mux: one slot, and the configuration where there is one. It is
 /// well formed, and its tail is left out.
 ///
 /// Errors: `TooLong` exactly where the element has more than 8191 bytes, or out of memory.
 pub fn canonical(alloc: Global, asc: Option<&Asc>, au: &[u8]) -> Result<Octets, WriteFault>
     requires { FitsOption IsAscWellFormed (option_copied asc) }
-    ensures { Frames (canonical_text (option_copied asc.entry) au.now) result }
+    ensures frames { Frames (canonical_text (option_copied asc.entry) au.now) result }
+    ensures bytes { WritesCanonical (option_copied asc.entry) au.now result }
 {
     let body = canonical_body(alloc, asc, au)?;
-    let frame = with_header(alloc, body.as_slice())?;
+    let frame = with_header(alloc, in_range(body.as_slice()))?;
     Ok(frame)
 }

@@ -5,6 +5,9 @@
 ghost use Rattle.layout.specs.Laws.{HasOneSpelling};
 ghost use Rattle.latm.specs.MuxConfig.{mux_config};
 ghost use Rattle.latm.specs.MuxElement.{IsSpelledOnce, IsDecided};
+ghost use Rattle.asc.specs.declared.asc_config.Asc.{Asc};
+ghost use Rattle.latm.specs.Written.{IsCanonical, canonical_bytes};
+ghost use Rattle.std.specs.Prelude.{List, Option, ℕ};
 
 /// No spelling of a StreamMuxConfig is a prefix of another's.
 pub fn mux_config_has_one_spelling()
@@ -20,4 +23,9 @@ pub fn elements_are_spelled_once()
 /// fault at most.
 pub fn elements_are_decided()
     ensures { IsDecided }
+{}
+
+/// The canonical bytes of an access unit are the LOAS frame of a body of the canonical length, whose bits are the canonical text.
+pub fn canonical_bytes_spell_an_element()
+    ensures { (asc : Option Asc) (au : List ℕ) → IsCanonical asc au (canonical_bytes asc au) }
 {}
