@@ -1,6 +1,5 @@
 -- Some frames of a rendition, from the first one on, that break no rule: as many as there are, they are a sound piece.
-use Rattle.std.proofs.Common.{◌≡◌, ℕ, zero, suc, ◌+◌, ◌*◌, ◌/◌, ◌%◌, ◌≤◌, ◌<◌, List, [], ◌∷◌, ◌++◌, length, take, drop, Option, Some, None, Ok, refl, ap, sym, subst, ◌∙◌, arith}
-use Rattle.std.specs.Prelude.{slice_range}
+use Rattle.std.proofs.Common.{◌≡◌, ℕ, zero, suc, ◌+◌, ◌/◌, ◌%◌, ◌≤◌, ◌<◌, List, [], ◌∷◌, ◌++◌, length, take, drop, Option, Some, None, Ok, refl, ap, sym, subst, ◌∙◌, arith}
 use Rattle.std.proofs.lemmas.List.{take-take, length-take-le}
 use Rattle.std.proofs.lemmas.List.Elements.{All-cons, All-head, All-tail, All-take}
 use Rattle.std.proofs.Math.Nat.{mul-div_cancel, lt_of_mul-lt-mul_right}
@@ -17,7 +16,7 @@ use Rattle.plans.specs.Parts.{Part, IsPart, part_frames}
 use Rattle.splicer.specs.declared.asked.Asked.{Asked}
 use Rattle.splicer.specs.Foreign.{last_n}
 use Rattle.splicer.specs.Rules.{level_rule, opening_rule, from_of, first_fault}
-use Rattle.splicer.specs.Turns.{frame_until, to_of}
+use Rattle.splicer.specs.Turns.{frame_until}
 use Rattle.splicer.specs.Runs.{RunValue, new_run, fault, behind, run_over, end, piece_of}
 use Rattle.splicer.specs.Pieces.{fault_over, GivesPiece, GoesOnFrom, part_of, IsSoundPiece, Rises, asked, given}
 use Rattle.splicer.specs.SoFar.{part_up_to, cut_part}
@@ -103,8 +102,8 @@ module _ (warm : UsacConfig → ℕ) where
           let y = times a.position (frame_length f.config) some stands.0 in
           (u / frame_length f.config, lt_of_mul-lt-mul_right (frame_length f.config) {m = from_of a f.config} {n = u / frame_length f.config} (omega (arith, x, y, r)), refl)
 
-      pub given_there : Rises a.position a.until → (top : ℕ) × (given (new_run a) (f ∷ rest) ≡ drop (from_of a f.config) (take top (f ∷ rest)))
-      given_there r = let b = bound a.until r stands.1 in (b.0, given_first a f rest b.0 b.1 of_one b.2)
+      pub given_there : Rises a.position a.until → (top : ℕ) × (from_of a f.config < top) × (given (new_run a) (f ∷ rest) ≡ drop (from_of a f.config) (take top (f ∷ rest)))
+      given_there r = let b = bound a.until r stands.1 in (b.0, b.1, given_first a f rest b.0 b.1 of_one b.2)
 
   -- ---- a sound piece
 

@@ -1,5 +1,5 @@
 -- What was given out so far is the splice of a sound plan.
-use Rattle.std.proofs.Common.{◌≡◌, ℕ, zero, suc, ◌+◌, ◌≤◌, ◌<◌, List, [], ◌∷◌, ◌++◌, length, map, take, drop, Option, Some, None, refl, ap, sym, subst, ◌∙◌, arith}
+use Rattle.std.proofs.Common.{◌≡◌, ℕ, zero, suc, ◌+◌, ◌≤◌, List, [], ◌∷◌, ◌++◌, length, map, take, drop, Option, Some, None, refl, ap, sym, subst, ◌∙◌, arith}
 use Rattle.std.specs.List.Sorted.{IsStrictlyIncreasing}
 use Rattle.std.proofs.lemmas.Grind.{flat_map-append}
 use Rattle.std.proofs.lemmas.List.{append-nil, length-take, length-drop}
@@ -17,7 +17,7 @@ use Rattle.splicer.specs.declared.asked.Asked.{Asked}
 use Rattle.splicer.specs.Rules.{from_of}
 use Rattle.splicer.specs.Runs.{new_run}
 use Rattle.splicer.specs.Pieces.{fault_over, Rises, asked, given}
-use Rattle.splicer.specs.SoFar.{AsksNext, part_up_to, cut_part, part_where_some, part_given, plan_so_far}
+use Rattle.splicer.specs.SoFar.{AsksNext, cut_part, part_where_some, part_given, plan_so_far}
 use Rattle.splicer.specs.Laws.{GivesSoundPlansSoFar}
 use Rattle.splicer.proofs.Later.{AreWell}
 use Rattle.splicer.proofs.Given.{part_ends}
@@ -84,7 +84,7 @@ module _ (warm : UsacConfig → ℕ) where
   one_given : (a : Asked) (fs : List Coded) → fault_over warm (new_run a) fs ≡ None → AreWell fs → FitsOption IsWellFormed a.before → Rises a.position a.until
       → IsOneBehind a.before (part_given a fs) × (spliced (part_given a fs) ≡ given (new_run a) fs)
   one_given a [] e well before r = (tt, refl)
-  one_given a (f ∷ rest) e well before r = let t = given_there warm a f rest e well r in some_given a f rest e well before t.0 (given (new_run a) (f ∷ rest)) t.1
+  one_given a (f ∷ rest) e well before r = let t = given_there warm a f rest e well r in some_given a f rest e well before t.0 (given (new_run a) (f ∷ rest)) t.2
 
   -- ---- renditions one after another
 

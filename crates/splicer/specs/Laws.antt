@@ -1,5 +1,5 @@
 -- What is true of the check of a rendition.
-use Rattle.std.specs.Prelude.{◌≡◌, ◌↔◌, ℕ, ◌+◌, List, [], ◌∷◌, ◌++◌, length, map, drop, None, All, ◌&&◌, ◌==◌, is_none}
+use Rattle.std.specs.Prelude.{◌≡◌, ◌↔◌, ℕ, ◌+◌, List, [], ◌∷◌, ◌++◌, length, map, drop, None, true, All, ◌&&◌, ◌==◌, is_none}
 use Rattle.std.specs.List.Sorted.{IsStrictlyIncreasing}
 use Rattle.layout.specs.Layout.{FitsOption}
 use Rattle.usac_cfg.specs.declared.usac_config.UsacConfig.{UsacConfig}
@@ -67,7 +67,11 @@ pub record RunsGoOn : Type 0 where
       → GiveParts warm 0 None positions (parts ++ part_of fs p ∷ [])
 
 -- Which frame is the first of its piece: the one of the number at which the piece begins, and no other. It is a start where no rendition
--- is before and the piece begins with its stream, and else a join.
+-- is before and the piece begins with its stream, and else a join. Where no rule is broken, it is the first frame that is given, and no
+-- other that is given.
 pub record TellsBeginnings : Type 0 where
   pub begins : (a : Asked) (fs : List Coded) (f : Coded) → is_beginning (turn (run_over (new_run a) fs) f) ≡ (length fs == from_of a f.config)
   pub starts : (a : Asked) (fs : List Coded) (f : Coded) → is_start (turn (run_over (new_run a) fs) f) ≡ ((length fs == from_of a f.config) && ((from_of a f.config == 0) && is_none a.before))
+  pub first : (warm : UsacConfig → ℕ) (a : Asked) (fs : List Coded) (f : Coded) → Rises a.position a.until → All (λ g. IsWellFormed g.config) fs → IsWellFormed f.config
+      → fault_over warm (new_run a) fs ≡ None → fault (run_over (new_run a) fs) (warm f.config) f ≡ None → is_given (turn (run_over (new_run a) fs) f) ≡ true
+      → is_beginning (turn (run_over (new_run a) fs) f) ≡ (length (given (new_run a) fs) == 0)

@@ -1,5 +1,5 @@
 -- Renditions of which the last was not read to its end: what they are asked, and the plan of what was given out of them so far.
-use Rattle.std.specs.Prelude.{◌≡◌, ℕ, ◌+◌, Bool, true, false, List, [], ◌∷◌, ◌++◌, length, map, take, Option, None}
+use Rattle.std.specs.Prelude.{◌≡◌, ℕ, ◌+◌, Bool, true, false, List, [], ◌∷◌, ◌++◌, length, map, take, Option}
 use Rattle.usac_cfg.specs.declared.usac_config.UsacConfig.{UsacConfig}
 use Rattle.timeline.specs.Plan.{first_position}
 use Rattle.plans.specs.Coded.{Coded}

@@ -45,8 +45,8 @@ pub fn runs_go_on()
     ensures { RunsGoOn }
 {}
 
-/// A frame is the first of its piece exactly where its number is that at which the piece begins. It is a start where no rendition is
-/// before and the piece begins with its stream, and else a join.
+/// A frame is the first of its piece exactly where its number is that at which the piece begins; and where no rule is broken, it is the
+/// first that is given. It is a start where no rendition is before and the piece begins with its stream, and else a join.
 pub fn beginnings_are_told()
     ensures { TellsBeginnings }
 {}
