@@ -30,7 +30,7 @@ other_number : (x y : ℕ) → y < x → (x == y) ≡ false
 other_number x y h = grind (arith, nat_tests)
 
 -- where the frames end that a piece has
-abbrev IsBound : Option ℕ → ℕ → ℕ → Type 0
+abbrev pub IsBound : Option ℕ → ℕ → ℕ → Type 0
 IsBound None top n = n ≤ top
 IsBound (Some to) top n = to ≡ top
 
@@ -124,7 +124,7 @@ part_on from top n f fs l = by_from (nat_lt n from) refl
     by_from false q = by_top (nat_lt n top) refl (ltb-false n from q)
 
 -- a part by its end
-part_ends : (from to : ℕ) (fs : List Coded) → slice_range fs from to ≡ drop from (take to fs)
+pub part_ends : (from to : ℕ) (fs : List Coded) → slice_range fs from to ≡ drop from (take to fs)
 part_ends zero to fs = let e : to - 0 ≡ to = omega arith in ap (λ (n : ℕ). take n fs) e
 part_ends (suc from) zero fs = let e : 0 - suc from ≡ 0 = omega arith in ap (λ (n : ℕ). take n (drop (suc from) fs)) e
 part_ends (suc from) (suc to) [] = take_all (suc to - suc from) [] (omega arith)
@@ -151,7 +151,7 @@ module _ (a : Asked) (c : UsacConfig) (top : ℕ) (low : from_of a c < top) wher
       ∙ (ap (given_if (if nat_lt n (from_of a c) then false else nat_lt n top) f) rest ∙ part_on (from_of a c) top n f fs low)
 
 -- from the first frame on
-given_first : (a : Asked) (f : Coded) (rest : List Coded) (top : ℕ) → from_of a f.config < top → AreOf f.config (f ∷ rest) → IsBound (to_of a f.config) top (length (f ∷ rest)) → given (new_run a) (f ∷ rest) ≡ drop (from_of a f.config) (take top (f ∷ rest))
+pub given_first : (a : Asked) (f : Coded) (rest : List Coded) (top : ℕ) → from_of a f.config < top → AreOf f.config (f ∷ rest) → IsBound (to_of a f.config) top (length (f ∷ rest)) → given (new_run a) (f ∷ rest) ≡ drop (from_of a f.config) (take top (f ∷ rest))
 given_first a f rest top low of_one h =
     let c = f.config in
     let kept = last_n 18 (units_in (carried_in f.config f.au) ++ unit_at f ∷ []) in

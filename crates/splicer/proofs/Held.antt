@@ -58,7 +58,7 @@ pub run_more : (v : RunValue) (fs gs : List Coded) → run_over v (fs ++ gs) ≡
 run_more v [] gs = refl
 run_more v (f ∷ fs) gs = run_more (behind v f) fs gs
 
-judged_all : (a : Asked) (fs : List Coded) (need : ℕ) (f : Coded) → IsWellFormed f.config → fault (run_over (new_run a) fs) need f ≡ fault_of a (stream_config fs) (length fs) (units_of (map coded_shown fs)) need f
+pub judged_all : (a : Asked) (fs : List Coded) (need : ℕ) (f : Coded) → IsWellFormed f.config → fault (run_over (new_run a) fs) need f ≡ fault_of a (stream_config fs) (length fs) (units_of (map coded_shown fs)) need f
 judged_all a [] need f w = refl
 judged_all a (g ∷ rest) need f w =
     let n = length (g ∷ rest) in

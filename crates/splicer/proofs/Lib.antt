@@ -8,3 +8,7 @@ pub mod Pieces
 pub mod Held
 pub mod Plans
 pub mod Given
+pub mod Fronts
+pub mod SoFar
+pub mod GoingOn
+pub mod Beginnings

@@ -19,19 +19,19 @@ use Rattle.splicer.proofs.Later.{AreWell}
 use Rattle.splicer.proofs.Pieces.{gives_sound_pieces}
 
 -- the next position is larger
-rises_next : (at : ℕ) (ats : List ℕ) → IsStrictlyIncreasing (at ∷ ats) → Rises at (first_position ats)
+pub rises_next : (at : ℕ) (ats : List ℕ) → IsStrictlyIncreasing (at ∷ ats) → Rises at (first_position ats)
 rises_next at [] r = tt
 rises_next at (next ∷ ats) r = rises_first at next ats r
 
-rises_later : (at : ℕ) (ats : List ℕ) → IsStrictlyIncreasing (at ∷ ats) → IsStrictlyIncreasing ats
+pub rises_later : (at : ℕ) (ats : List ℕ) → IsStrictlyIncreasing (at ∷ ats) → IsStrictlyIncreasing ats
 rises_later at [] r = λ i k. absurd (omega (arith, k))
 rises_later at (next ∷ ats) r = rises_rest at next ats r
 
-well_config : (fs : List Coded) → AreWell fs → FitsOption IsWellFormed (stream_config fs)
+pub well_config : (fs : List Coded) → AreWell fs → FitsOption IsWellFormed (stream_config fs)
 well_config [] w = tt
 well_config (f ∷ fs) w = All-head (λ g. IsWellFormed g.config) f fs w
 
-abbrev AllWell : List Part → Type 0
+abbrev pub AllWell : List Part → Type 0
 AllWell ps = All (λ p. AreWell p.stream) ps
 
 module _ (warm : UsacConfig → ℕ) where

@@ -8,4 +8,5 @@ pub mod Steps
 pub mod ForeignFound
 pub mod SeenFound
 pub mod Pieces
+pub mod SoFar
 pub mod Laws

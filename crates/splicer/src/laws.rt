@@ -2,7 +2,7 @@
 //!
 //! The functions run no code; their contracts are the theorems.
 ghost use Rattle.splicer.specs.Foreign.{IsDecidedByLast};
-ghost use Rattle.splicer.specs.Laws.{HoldsLastUnits, GivesSoundPieces, GivesFrames, GiveSoundPlans};
+ghost use Rattle.splicer.specs.Laws.{HoldsLastUnits, GivesSoundPieces, GivesFrames, GiveSoundPlans, GivesSoundPlansSoFar, RunsGoOn, TellsBeginnings};
 
 /// The last units of a stream decide which carried unit is foreign, as all its units do; and none is foreign exactly where the
 /// carried units are those that the stream has directly before the frame.
@@ -31,4 +31,22 @@ pub fn given_frames_are_the_piece()
 /// the positions. So whoever checks renditions by runs plans soundly, and refuses no sound plan.
 pub fn sound_plans_are_given()
     ensures { GiveSoundPlans }
+{}
+
+/// Whatever the renditions are, and however they go on: the frames that were given out before the first rule that is broken are the
+/// splice of a sound plan. Its parts are the pieces of which a frame was given, each with its stream up to the last of these. So a
+/// player refuses none of them.
+pub fn given_frames_are_a_sound_plan()
+    ensures { GivesSoundPlansSoFar }
+{}
+
+/// How runs over renditions go on, frame by frame, and from a rendition to the next one.
+pub fn runs_go_on()
+    ensures { RunsGoOn }
+{}
+
+/// A frame is the first of its piece exactly where its number is that at which the piece begins; and where no rule is broken, it is the
+/// first that is given. It is a start where no rendition is before and the piece begins with its stream, and else a join.
+pub fn beginnings_are_told()
+    ensures { TellsBeginnings }
 {}

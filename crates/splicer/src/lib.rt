@@ -13,6 +13,8 @@ mod judging;
 mod kept;
 pub mod laws;
 mod opening;
+#[cfg(test)]
+mod renditions;
 mod run;
 #[cfg(test)]
 mod tests;
