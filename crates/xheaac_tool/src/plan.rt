@@ -5,6 +5,7 @@ ghost use Rattle.commands.specs.Worlds.{world};
 ghost use Rattle.commands.specs.Calling.{Called};
 ghost use Rattle.joining.specs.Planning.{plans_files};
 
+use crate::listing::{PieceLists, piece_lists};
 use crate::words::{Asked, read_words};
 use commands::Outcome;
 use core_iface::Core;
@@ -33,9 +34,9 @@ pub fn do_plan<H: Shelf, K: Sink, C: Core>(
     let Some(Asked::Plan { pieces }) = read_words(words) else {
         unreachable!()
     };
-    let lists = match piece_lists(alloc, pieces) {
+    let PieceLists { files, positions } = match piece_lists(alloc, pieces) {
         Ok(lists) => lists,
         Err(error) => return Outcome::Memory(error),
     };
-    plan_files(alloc, &lists.files, lists.positions, shelf, out, core)
+    plan_files(alloc, &files, positions, shelf, out, core)
 }
