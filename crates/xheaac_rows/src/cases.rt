@@ -39,6 +39,8 @@ pub struct Row<'a> {
     pub words: &'a [&'a str],
     /// The bytes of the file `in`, in parts of hexadecimal digits.
     pub file: &'a [&'a str],
+    /// Those of the file `more`.
+    pub more: &'a [&'a str],
     pub failing: Failing,
     pub note: &'a str,
     pub status: u8,
@@ -50,6 +52,7 @@ pub fn playing<'a>(file: &'a [&'a str], note: &'a str, fed: u64) -> Row<'a> {
     Row {
         words: &["play", "in"],
         file,
+        more: &[],
         failing: NOTHING,
         note,
         status: if note.is_empty() { 0 } else { 1 },
@@ -100,6 +103,7 @@ pub fn check_row(
     };
     let mut shelf = MemShelf::new(alloc, piece, &[row.failing.read])?;
     shelf.add("in", &joined(alloc, row.file)?)?;
+    shelf.add("more", &joined(alloc, row.more)?)?;
     let mut out = MemSink::new(alloc, piece, &[row.failing.write])?;
     let mut note = MemSink::new(alloc, piece, &[row.failing.note])?;
     let mut core = FaultyCore::new(alloc, FoldCore::new(), &[row.failing.core])?;

@@ -99,6 +99,7 @@ const BROKEN: &[(&str, &str)] = &[
 const CHECK: Row<'static> = Row {
     words: &["check", "in"],
     file: PLAIN,
+    more: &[],
     failing: NOTHING,
     note: "",
     status: 0,

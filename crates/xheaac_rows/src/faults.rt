@@ -157,6 +157,7 @@ fn notes_what_stopped_it(rt: HostRuntime) -> Result<(), Fail> {
             let row = Row {
                 words,
                 file: parts,
+                more: &[],
                 failing: Failing {
                     read: *read,
                     note: failing,

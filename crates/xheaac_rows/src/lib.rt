@@ -11,6 +11,8 @@ mod checks;
 #[cfg(test)]
 mod faults;
 #[cfg(test)]
+mod plans;
+#[cfg(test)]
 mod plays;
 mod program;
 #[cfg(test)]

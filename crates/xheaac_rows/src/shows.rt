@@ -235,6 +235,7 @@ const OPENED: &[Shown] = &[
 const SHOW: Row<'static> = Row {
     words: &["show", "in"],
     file: &[],
+    more: &[],
     failing: NOTHING,
     note: "",
     status: 0,

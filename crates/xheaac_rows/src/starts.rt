@@ -1,15 +1,8 @@
 // Worked rows of `start`.
 use crate::cases::{Pieces, Row, USAGE, check_both, check_row, playing, samples_of};
-use crate::streams::{IMMEDIATE, JOINED, PLAIN};
+use crate::streams::{CARRIES_ONE, IMMEDIATE, JOINED, PLAIN};
 use std::test::Fail;
 use vectors::EIGHT_FRAMES;
-
-// Three frames of 2048 samples, with SBR of 2:1, for which the core takes two units to warm up. The third one carries one.
-const CARRIES_ONE: &[&str] = &[
-    "56E00E2000F94623611CC010B207F80340",
-    "56E00380C200",
-    "56E00F86E0A61B08E6008590100018408000",
-];
 
 // A stream, the frame at which a player starts, the first sample of each frame that it plays, how many units are fed, and the
 // refusal.

@@ -49,6 +49,17 @@ pub const IMMEDIATE_FRAME: &str = "56E01187E0C81908E600C72000201000181C0000";
 
 pub const IMMEDIATE: &[&str] = &[OWN, IMMEDIATE_FRAME, BEHIND];
 
+// The same eight frames, the fifth without a preroll.
+pub const BARE: &[&str] = &[OWN, "56E00380D800", BEHIND];
+
+// Two frames of 2048 samples, with SBR of 2:1, for which the core takes two units to warm up: A0 and 84. A third one with the unit 82
+// carries the unit before it, or both.
+pub const DOUBLED: &str = "56E00E2000F94623611CC010B207F8034056E00380C200";
+
+pub const CARRIES_ONE: &[&str] = &[DOUBLED, "56E00F86E0A61B08E6008590100018408000"];
+
+pub const CARRIES_BOTH: &[&str] = &[DOUBLED, "56E0128860D61B08E600859020001A000018408000"];
+
 // The two slots, and three elements that are refused: the syncword is not there; the second slot has no length; a new mux
 // begins, and its audioMuxVersionA is 1.
 pub const TWO_SLOTS_LOST: &[&str] = &[TWO_SLOTS, "56C0"];
