@@ -48,9 +48,7 @@ fn splice_refusal(fault: &SpliceFault) -> Option<Refusal>
             },
             reason: Reason::FrameTooShort,
         }),
-        SpliceFault::NotIndependent { frame } => {
-            Some(at_frame(*frame, Reason::NotIndependent))
-        }
+        SpliceFault::NotIndependent { frame } => { Some(at_frame(*frame, Reason::NotIndependent)) }
         SpliceFault::Carry { frame, fault } => carry_refusal(*frame, fault),
         SpliceFault::SameConfig { frame } => Some(at_frame(*frame, Reason::SameConfig)),
         SpliceFault::TooFew { frame, have, need } => Some(at_frame(

@@ -2,3 +2,5 @@ pub mod Lines
 pub mod Growing
 pub mod CheckSteps
 pub mod Headlines
+pub mod PairLemmas
+pub mod ListedLemmas

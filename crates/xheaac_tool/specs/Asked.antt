@@ -1,10 +1,17 @@
 -- What is asked, without where it lies in memory.
-use Rattle.xheaac_tool.specs.Words.{Case, Show, Check, Play, Start}
+use Rattle.std.specs.Prelude.{List, [], unwrap_or}
+use Rattle.xheaac_tool.specs.Words.{Case, Show, Check, Play, Start, Plan, PieceWords, pieces_of, texts}
+use Rattle.xheaac_tool.specs.declared.piece_words.Pairs.{Pairs}
 use Rattle.xheaac_tool.specs.declared.words.Asked.{Asked}
 use Rattle.xheaac_tool.specs.declared.words.Asked.TheVariants as variants
+
+-- the pieces that words ask for which are pairs: the empty list never stands for them
+abbrev pub pieces_at : Pairs → List PieceWords
+pieces_at pairs = unwrap_or (pieces_of (texts pairs.words.now)) []
 
 abbrev pub asked : Asked → Case
 asked (variants.Show file) = Show file.now
 asked (variants.Check file) = Check file.now
 asked (variants.Play file) = Play file.now
 asked (variants.Start file frame) = Start file.now frame
+asked (variants.Plan pieces) = Plan (pieces_at pieces)

@@ -5,6 +5,7 @@ pub mod Reading
 pub mod Numbers
 pub mod Words
 pub mod Asked
+pub mod Listed
 pub mod Cases
 pub mod Answered
 pub mod Headline

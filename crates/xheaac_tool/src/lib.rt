@@ -1,16 +1,19 @@
 //! The commands of the program, over a shelf of files, two sinks and a core. [`run`] reads the words of
 //! the command line, does what they ask for, and answers the status. Its contract says, from the bytes
-//! of the file alone, what was written, what was noted and which status is answered; and where a device
-//! or the core fails, what was written before. [`do_show`], [`do_check`], [`do_play`] and [`do_start`]
-//! are the commands without their note, for a program that has its own.
+//! of the files alone, what was written, what was noted and which status is answered; and where a device
+//! or the core fails, what was written before. [`do_show`], [`do_check`], [`do_play`], [`do_start`] and
+//! [`do_plan`] are the commands without their note, for a program that has its own.
 //!
 //! What they share is the crate `commands`: its runners go over the frames of a file for any task. The
-//! tasks are `show_task` and `check_task`, and in the crate `playing` those of `play` and `start`.
+//! tasks are `show_task` and `check_task`, in the crate `playing` those of `play` and `start`, and in
+//! the crate `joining` that of `plan`.
 #![tactic(auto)]
 
 mod check;
 mod check_task;
+mod listing;
 mod numbers;
+mod piece_words;
 mod plan;
 mod play;
 mod show;

@@ -2,9 +2,10 @@
 ghost use Rattle.std.specs.Option.{option_map};
 ghost use Rattle.std.specs.Prelude.{◌≡◌};
 ghost use Rattle.xheaac_tool.specs.Asked.{asked};
-ghost use Rattle.xheaac_tool.specs.Words.{case_of, texts};
+ghost use Rattle.xheaac_tool.specs.Words.{case_of, only_word, start_of, texts};
 
 use crate::numbers::read_number;
+use crate::piece_words::Pairs;
 use std::alloc::AllocError;
 use thiserror::Error;
 
@@ -25,26 +26,44 @@ pub enum Asked<'a> {
     Check { file: &'a str },
     Play { file: &'a str },
     Start { file: &'a str, frame: u64 },
+    Plan { pieces: Pairs<'a> },
+}
+
+/// The one FILE that most commands ask for.
+fn only_word<'a>(words: &'a [String]) -> Option<&'a str>
+    ensures { option_map (λ word. word.now) result ≡ only_word (texts words.now) }
+{
+    match words {
+        [word] => Some(word.as_str()),
+        _ => None,
+    }
+}
+
+fn read_start<'a>(words: &'a [String]) -> Option<Asked<'a>>
+    ensures { option_map asked result ≡ start_of (texts words.now) }
+{
+    match words {
+        [file, frame] => Some(Asked::Start {
+            file: file.as_str(),
+            frame: read_number(frame.as_str())?,
+        }),
+        _ => None,
+    }
 }
 
 /// Reads the words; `None` where they are no case.
 pub fn read_words<'a>(words: &'a [String]) -> Option<Asked<'a>>
     ensures { option_map asked result ≡ case_of (texts words.now) }
 {
-    match words {
-        [command, file] if command.as_str() == "show" => Some(Asked::Show {
-            file: file.as_str(),
-        }),
-        [command, file] if command.as_str() == "check" => Some(Asked::Check {
-            file: file.as_str(),
-        }),
-        [command, file] if command.as_str() == "play" => Some(Asked::Play {
-            file: file.as_str(),
-        }),
-        [command, file, frame] if command.as_str() == "start" => Some(Asked::Start {
-            file: file.as_str(),
-            frame: read_number(frame.as_str())?,
-        }),
+    let [name, others @ ..] = words else {
+        return None;
+    };
+    match name.as_str() {
+        "show" => only_word(others).map(|file| Asked::Show { file }),
+        "check" => only_word(others).map(|file| Asked::Check { file }),
+        "play" => only_word(others).map(|file| Asked::Play { file }),
+        "start" => read_start(others),
+        "plan" => Pairs::read(others).map(|pieces| Asked::Plan { pieces }),
         _ => None,
     }
 }
