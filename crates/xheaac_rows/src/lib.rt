@@ -11,7 +11,7 @@ mod checks;
 #[cfg(test)]
 mod faults;
 #[cfg(test)]
-mod plans;
+mod plan_rows;
 #[cfg(test)]
 mod plays;
 mod program;
