@@ -1,127 +1,17 @@
 #!/usr/bin/env python3
-"""Says what `xheaac show FILE`, `xheaac check FILE`, `xheaac play FILE` and `xheaac start FILE FRAME` are to do, by a reader of its
-own: expect.py show|check|play FILE and expect.py start FILE FRAME write the same bytes and the same note, and end with the same
+"""Says what `xheaac show FILE`, `xheaac check FILE`, `xheaac play FILE`, `xheaac start FILE FRAME` and `xheaac plan FILE POS [FILE POS]...`
+are to do, by a reader of its own: expect.py with the same words writes the same bytes and the same note, and ends with the same
 status. It shares no code with the program. It reads a stream in any mux of one program and one layer, says at which bit or byte it
-is at fault, judges its prerolls, and plays it by the rules of a player and of the example core."""
+is at fault, judges its prerolls, plays it by the rules of a player and of the example core, and judges whether pieces can be joined."""
 import struct
 import sys
 
-from layouts import Configuration, Fault, PreRoll, Text, Unit, read_element
+from layouts import Fault, PreRoll
+from plans import plan
+from streams import WARM_UP, Broken, Stop, carried, frames_of, read_unit, refused, text_of
 
-MOST_BYTES = 268_435_456
-# by sbrRatioIndex: how many units the example core takes to warm up
-WARM_UP = (1, 3, 2, 2)
 # how many times a fade has
 FADED = 128
-
-
-class Stop(Exception):
-    """The command ends here, with that note and status."""
-
-    def __init__(self, note, status):
-        super().__init__(note)
-        self.note, self.status = note, status
-
-
-class Broken(Exception):
-    """A frame breaks a rule: its text."""
-
-
-def refused(place, reason):
-    return Stop(f"refused: {place}: {reason}\n", 1)
-
-
-def read_body(octets, at, is_whole):
-    """AudioSyncStream: the bytes behind the header at that place, and where they end. Where less stands there than a frame, the
-    stream is cut if these bytes are the whole of it, and else it is too large."""
-    head = octets[at : at + 3]
-    if head[0] != 0x56 or len(head) > 1 and head[1] < 0xE0:
-        raise refused(f"byte {at}", "sync lost")
-    end = at + 3 + ((head[1] - 0xE0) * 256 + head[2] if len(head) == 3 else 0)
-    if len(head) < 3 or len(octets) < end:
-        raise refused(f"byte {at}", "truncated") if is_whole else Stop("too large\n", 7)
-    return octets[at + 3 : end], end
-
-
-class Frame:
-    """One access unit, what is in force for it, and the mux that its element opens with, where it is the first of one."""
-
-    def __init__(self, number, opening, mux, is_changed, unit):
-        self.number, self.opening, self.mux = number, opening, mux
-        self.is_changed, self.unit = is_changed, unit
-
-
-def frames_of(octets):
-    """The frames of a stream, one after another. Where it is at fault, the next one ends the command."""
-    counted = octets[:MOST_BYTES]
-    at, number, mux = 0, 0, None
-    while at < len(counted):
-        body, at = read_body(counted, at, len(octets) == len(counted))
-        try:
-            opening, slots = read_element(body, mux)
-        except Fault as fault:
-            raise refused(f"frame {number} bit {fault.bit}", fault.reason) from fault
-        is_changed = opening is not None and (mux is None or mux.asc.usac.spelling != opening.asc.usac.spelling)
-        mux = opening or mux
-        for place, unit in enumerate(slots):
-            yield Frame(number, None if place else opening, mux, is_changed and place == 0, unit)
-            number += 1
-    if len(octets) > len(counted):
-        raise Stop("too large\n", 7)
-
-
-def read_unit(frame):
-    try:
-        return Unit(frame.mux.asc.usac, frame.unit)
-    except Fault as fault:
-        raise refused(f"frame {frame.number} bit {fault.bit}", fault.reason) from fault
-
-
-def preroll_lines(payload):
-    try:
-        return list(PreRoll(payload).shown())
-    except Fault as fault:
-        return [f"preroll bad bit={fault.bit}"]
-
-
-def judge_configuration(bits, usac):
-    """The bytes of the configuration that a preroll has spell the one in force, and at most 7 bits follow."""
-    text = Text(bits, "configuration too short")
-    try:
-        spelling = Configuration(text).spelling
-    except Fault as fault:
-        raise Broken("bad preroll configuration") from fault
-    if text.left() > 7:
-        raise Broken("bad preroll configuration")
-    if spelling != usac.spelling:
-        raise Broken("preroll configuration differs")
-
-
-def carried(usac, unit):
-    """The units that the preroll of a frame carries, and whether it asks for a fade. Each rule is tried over all units before the
-    next."""
-    if not unit.preroll:
-        raise Broken("no preroll")
-    if not unit.is_immediate:
-        raise Broken("preroll split")
-    try:
-        preroll = PreRoll(unit.preroll)
-    except Fault as fault:
-        raise Broken(f"bad preroll at bit {fault.bit}") from fault
-    if preroll.configuration:
-        judge_configuration(preroll.configuration, usac)
-    units = []
-    for number, bits in enumerate(preroll.units):
-        try:
-            units.append(Unit(usac, bits))
-        except Fault as fault:
-            raise Broken(f"bad carried unit {number} at bit {fault.bit}") from fault
-    for number, other in enumerate(units):
-        if other.preroll:
-            raise Broken(f"nested preroll in unit {number}")
-    if [*units, unit][0].flag == "0":
-        raise Broken("first unit not independent")
-    return units, preroll.fade
 
 
 class Fold:
@@ -244,9 +134,11 @@ class Start(Play):
         return b""
 
 
-def text_of(lines):
-    """The bytes of lines, each with its line feed."""
-    return b"".join(line.encode() + b"\n" for line in lines)
+def preroll_lines(payload):
+    try:
+        return list(PreRoll(payload).shown())
+    except Fault as fault:
+        return [f"preroll bad bit={fault.bit}"]
 
 
 class Show(Command):
@@ -314,9 +206,20 @@ def expected(word, octets, *numbers):
     return run(COMMANDS[word](*numbers), octets)
 
 
+def read(name):
+    with open(name, "rb") as file:
+        return file.read()
+
+
+def answer(word, *words):
+    """What the command with these words writes, notes and ends with."""
+    if word == "plan":
+        return plan([lambda name=name: read(name) for name in words[::2]], [int(position) for position in words[1::2]])
+    return expected(word, read(words[0]), *map(int, words[1:]))
+
+
 def main():
-    with open(sys.argv[2], "rb") as file:
-        written, note, status = expected(sys.argv[1], file.read(), *map(int, sys.argv[3:]))
+    written, note, status = answer(*sys.argv[1:])
     sys.stdout.buffer.write(written)
     sys.stderr.buffer.write(note)
     return status

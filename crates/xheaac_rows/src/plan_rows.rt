@@ -74,7 +74,13 @@ const PLANNED: &[Planned] = &[
     ),
     // digits up to 18, and the preroll of a frame that is not the first of its piece
     (
-        &["plan", "more", "000000000000000000", "in", "000000000000008192"],
+        &[
+            "plan",
+            "more",
+            "000000000000000000",
+            "in",
+            "000000000000008192",
+        ],
         CARRIES_ONE,
         IMMEDIATE,
         &[WHOLE_LINE],
