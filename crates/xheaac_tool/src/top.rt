@@ -13,6 +13,7 @@ use crate::check::do_check;
 use crate::plan::do_plan;
 use crate::play::do_play;
 use crate::show::do_show;
+use crate::splice::do_splice;
 use crate::start::do_start;
 use crate::words::{Asked, WordsFault, read_words};
 use commands::{OUT_OF_MEMORY, Outcome, finish, report};
@@ -46,6 +47,7 @@ fn do_asked<H: Shelf, K: Sink, C: Core>(
         Asked::Play { .. } => do_play(alloc, words, shelf, out, core),
         Asked::Start { .. } => do_start(alloc, words, shelf, out, core),
         Asked::Plan { .. } => do_plan(alloc, words, shelf, out, core),
+        Asked::Splice { .. } => do_splice(alloc, words, shelf, out, core),
     }
 }
 
