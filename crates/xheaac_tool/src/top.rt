@@ -103,7 +103,8 @@ pub fn run<H: Shelf, K: Sink, N: Sink, C: Core>(
     // frame of the timeline once, in order, with the samples of its own stream decoded alone, and with the fades of fading joins;
     // any other file is refused at its first faulty frame, behind the samples of the frames before it. In `starts`: where FILE
     // carries a whole stream with a sound start at FRAME, `start FILE FRAME` plays it from there on as decoded alone. In `plans`: the
-    // first event of the files decides what `plan` answers, and there is none exactly where they make a sound plan.
+    // first event of the files decides what `plan` answers, and there is none exactly where they make a sound plan. In `joins`: so it
+    // decides what `splice` answers and writes.
     ensures promises { Promises C.does (case_of (texts words.now)) (world H.Shelf K.Sink C.Core shelf.old out.old core.old)
         (world H.Shelf K.Sink C.Core shelf.new out.new core.new) (notes N.Sink note.old note.new) result }
 {
