@@ -33,7 +33,7 @@ use Rattle.joining.specs.Events.{FileScript, Event, Rule, AtMark, NotRead, order
 use Rattle.joining.specs.Answers.{NotesRefusal, TellsMark, IsDecided, AreCutShort, GoesWell, NoEventIsAPlan}
 use Rattle.joining.specs.Splicing.{refusal_of_halt, splicing, splices_files}
 use Rattle.joining.specs.SpliceEvents.{Stop, AtFrame, Behind, or_stop, stop_behind, unless, files_stop, files_handed, first_stop, splice_bytes}
-use Rattle.joining.specs.SpliceAnswers.{TellsStop, TellsFirstStop, IsReadTo, TellsReadTo, SplicesSoundly}
+use Rattle.joining.specs.SpliceAnswers.{TellsStop, TellsFirstStop, IsReadTo, TellsReadTo, SplicesSoundly, NoStopIsASplice}
 use Rattle.joining.proofs.Told.{IsOwn}
 use Rattle.joining.proofs.Answered.{first_comes, own_end, not_memory, settled, settled_read, decided_or_memory, held_long, all_held}
 use Rattle.joining.proofs.NoStop.{no_stop_is_planned}
@@ -126,13 +126,14 @@ module _ (d : Definitions) (positions : List ℕ) (texts taken : List (List ℕ)
 
 -- ---- the answer
 
-module _ {H K C : Type 0} (h : Shelf.Ghosts H) (k : Sink.Ghosts K) (g : Core.Ghosts C) (d : Definitions) (law : NoEventIsAPlan) (positions : List ℕ) (names texts : List (List ℕ)) (s0 s1 : H) (o0 o1 : K) (c0 c1 : C) (n : Notes) (status : ℕ) where
+module _ {H K C : Type 0} (h : Shelf.Ghosts H) (k : Sink.Ghosts K) (g : Core.Ghosts C) (d : Definitions) (law : NoEventIsAPlan) (splice_law : NoStopIsASplice) (positions : List ℕ) (names texts : List (List ℕ)) (s0 s1 : H) (o0 o1 : K) (c0 c1 : C) (n : Notes) (status : ℕ) where
   pub splices_soundly : (status < 8) × (status ≢ 2) → length positions ≡ length names → Ran k (splices_files d positions) names (world h k g s0 o0 c0) (λ sink. world h k g s1 sink c1) o1 n status
       → CausesOf (world h k g s0 o0 c0).faults (world h k g s1 o1 c1).faults status → AreHeld (h.bytes s0) names texts → SplicesSoundly d positions names texts (world h k g s0 o0 c0) (world h k g s1 o1 c1) n status
   splices_soundly few each ran causes held = record {
     taken = called.taken;
     from = called.from;
     answers = record { decided = decided; read = read; planned = λ ss are none. no_stop_is_planned law d.warm positions texts ss are long none };
+    carries = λ some ss are none few. splice_law d.warm positions texts ss are long some none few;
     complete = λ well. decided_or_memory status few.0 few.1 (no_fault well);
   }
     where

@@ -66,5 +66,8 @@ pub record SplicesSoundly {H K C : Type 0} (d : Definitions) (positions : List �
   pub taken : List (List ℕ)
   pub from : AreTaken before.bytes after.left before.begun names taken
   pub answers : AnswersSplice d positions texts taken (traces before after) n status
+  -- Where there is no stop, what was written carries the splice of the sound plan, if a file may have so many bytes.
+  pub carries : 0 < length positions → (scripts : List FileScript) → AreScripts texts scripts → first_stop d.warm positions scripts ≡ None → length (splice_bytes d.warm positions scripts) ≤ most_bytes
+      → (plan : ArePlanned d.warm positions scripts) × CarriesSplice (splice_bytes d.warm positions scripts) plan.parts
   -- Where all goes well no other status comes; 6, out of memory, is always free.
   pub complete : GoesWell before after → IsDecided status ⊎ (status ≡ 6)

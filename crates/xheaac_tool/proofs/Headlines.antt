@@ -15,6 +15,7 @@ use Rattle.playing.proofs.FileAnswers.{answered}
 use Rattle.playing.proofs.Headlines.{playing_silent, starting_silent, answers_splices, answers_start}
 use Rattle.joining.specs.Answers.{NoEventIsAPlan}
 use Rattle.joining.proofs.Answered.{plans_soundly}
+use Rattle.joining.specs.SpliceAnswers.{NoStopIsASplice}
 use Rattle.joining.proofs.SpliceAnswered.{splices_soundly}
 use Rattle.xheaac_tool.specs.Headline.{PlaysSplices, StartsStreams, PlansPieces, SplicesPieces}
 use Rattle.xheaac_tool.specs.Words.{Case, Play, Start, Plan, Splice, files_of, positions_of}
@@ -41,8 +42,8 @@ module _ {H K C : Type 0} (h : Shelf.Ghosts H) (k : Sink.Ghosts K) (c : Core.Gho
       let each : length (positions_of pieces) ≡ length (files_of pieces) = length-map pieces (λ p. p.position) ∙ sym (length-map pieces (λ p. p.file)) in
       plans_soundly h k c d law (positions_of pieces) (files_of pieces) texts s0 s1 o0 o1 c0 c1 n status (b.statuses, b.does.0) each b.does.1 b.causes held
 
-  pub splices_pieces : SplicesPieces d case (world h k c s0 o0 c0) (world h k c s1 o1 c1) n status
-  splices_pieces = λ pieces texts asked held.
+  pub splices_pieces : NoEventIsAPlan → NoStopIsASplice → SplicesPieces d case (world h k c s0 o0 c0) (world h k c s1 o1 c1) n status
+  splices_pieces law splice_law = λ pieces texts asked held.
       let b = of_case (Splice pieces) asked in
       let each : length (positions_of pieces) ≡ length (files_of pieces) = length-map pieces (λ p. p.position) ∙ sym (length-map pieces (λ p. p.file)) in
-      splices_soundly h k c d (positions_of pieces) (files_of pieces) texts s0 s1 o0 o1 c0 c1 n status (b.statuses, b.does.0) each b.does.1 b.causes held
+      splices_soundly h k c d law splice_law (positions_of pieces) (files_of pieces) texts s0 s1 o0 o1 c0 c1 n status (b.statuses, b.does.0) each b.does.1 b.causes held

@@ -51,5 +51,6 @@ pub record Promises {H K C : Type 0} (d : Definitions) (case : Option Case) (bef
   -- The first event of the files decides what `plan` answers and tells; and there is none exactly where they are the streams of a sound
   -- plan that is timed by the positions.
   pub plans : PlansPieces d case before after n status
-  -- So it decides what `splice` answers, and which frames it writes.
+  -- So it decides what `splice` answers, and which frames it writes; and where there is none, these carry the splice of the plan, so that
+  -- `play` of them is answered by `splices`.
   pub joins : SplicesPieces d case before after n status
