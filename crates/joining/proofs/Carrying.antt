@@ -193,6 +193,8 @@ module _ (orders : JudgesOrder) (plans : GiveSoundPlans) (sound : GivesSoundPiec
       let all : all_handed warm positions ss ≡ hs = unless_none (order_event (order_result positions)) hs (behind_none _ both.0) in
       let short : length (bytes_of_handed hs) ≤ most_bytes = subst (λ (x : List Handed). length (bytes_of_handed x) ≤ most_bytes) all few in
       let asc : Asc = record { index = 0; explicit_rate = 0; channels = 0; usac = some_config warm positions plan.parts some plan.timed plan.sound; tail = [] } in
-      let script = script_of back hs (all_open sound warm 0 None positions ss plan.parts tt plan.rise well plan.streams give both.1) (all_have_frames warm 0 None positions texts ss are both.1) short asc in
-      (plan, subst (λ (x : List Handed). CarriesSplice (bytes_of_handed x) plan.parts) (sym all)
-      (frames_of_handed script.0 hs, script.1, frames_spliced sound gives warm 0 None positions ss plan.parts tt plan.rise well plan.streams give both.1 script.0))
+      let script = script_of back hs (all_open sound warm 0 None positions ss plan.parts tt plan.rise well plan.streams give both.1) (all_have_frames warm 0 None positions texts ss are both.1) short asc in (
+        plan,
+        subst (λ (x : List Handed). CarriesSplice (bytes_of_handed x) plan.parts) (sym all)
+            (frames_of_handed script.0 hs, script.1, frames_spliced sound gives warm 0 None positions ss plan.parts tt plan.rise well plan.streams give both.1 script.0),
+      )

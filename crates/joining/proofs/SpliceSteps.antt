@@ -111,9 +111,11 @@ module _ (d : Definitions) (at : PieceAt) (before : List Frame) (f : Frame) wher
   takes_frame keeps short r halts = no_halt _ halts.0 (halt_none (run_at at before) need f keeps short) halts.1
 
   refuses_long : (n : ℕ) (r : Refusal) → fault (run_at at before) need (coded f) ≡ None → some_long (handed_of (run_at at before) f) ≡ true → (let v = run_at at before in v.frames ≡ n) → r ≡ at_frame n reasons.TooLong → Halts d at before f r
-  refuses_long n r keeps long number is =
-      (Long (let v = run_at at before in v.frames), halt_long (run_at at before) need f keeps long,
-      ap (λ (k : ℕ). let o : Option Refusal = Some (at_frame k reasons.TooLong) in o) number ∙ ap (λ (x : Refusal). let o : Option Refusal = Some x in o) (sym is))
+  refuses_long n r keeps long number is = (
+    Long (let v = run_at at before in v.frames),
+    halt_long (run_at at before) need f keeps long,
+    ap (λ (k : ℕ). let o : Option Refusal = Some (at_frame k reasons.TooLong) in o) number ∙ ap (λ (x : Refusal). let o : Option Refusal = Some x in o) (sym is),
+  )
 
   -- it broke no rule, and was handed on or not
   pub handed_handles : (n : ℕ) (m : Meaning) (w0 w1 : Option (List ℕ)) (q : Result (Unit {0}) FrameEnd) → fault (run_at at before) need (coded f) ≡ None → (let v = run_at at before in v.frames ≡ n) → HandsOver n (handed_of (run_at at before) f) w0 w1 q
