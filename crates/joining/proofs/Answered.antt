@@ -33,7 +33,7 @@ use Rattle.joining.specs.Events.{FileScript, Event, Rule, AtMark, NotRead, or_ev
 use Rattle.joining.specs.Answers.{NotesRefusal, TellsMark, TellsEvent, IsDecided, TellsFirst, AreCutShort, IsReadOn, TellsRead, AnswersPlan, GoesWell, PlansSoundly, NoEventIsAPlan}
 use Rattle.joining.proofs.Told.{Says, IsOwn, RefusedBy, Comes, walked, cut_short}
 
-first_comes : (positions : List ℕ) → Comes (first_at positions) positions
+pub first_comes : (positions : List ℕ) → Comes (first_at positions) positions
 first_comes [] = tt
 first_comes (x ∷ positions) = refl
 
@@ -126,7 +126,7 @@ module _ (d : Definitions) (positions : List ℕ) (texts taken : List (List ℕ)
 -- ---- the answer
 
 -- a status of the files alone is the command's own
-own_end : (o : Outcome) (status : ℕ) → status ≡ status_of o → IsDecided status → IsOwn o
+pub own_end : (o : Outcome) (status : ℕ) → status ≡ status_of o → IsDecided status → IsOwn o
 own_end is.Done status e h = tt
 own_end (is.Refused words) status e h = tt
 own_end is.ReadFault status e h = elim h [ inl x ↦ absurd (omega (arith, e, x)) | inr y ↦ elim y [ inl x ↦ absurd (omega (arith, e, x)) | inr x ↦ absurd (omega (arith, e, x)) ] ]
@@ -135,13 +135,13 @@ own_end is.CoreFault status e h = elim h [ inl x ↦ absurd (omega (arith, e, x)
 own_end (is.Memory a) status e h = elim h [ inl x ↦ absurd (omega (arith, e, x)) | inr y ↦ elim y [ inl x ↦ absurd (omega (arith, e, x)) | inr x ↦ absurd (omega (arith, e, x)) ] ]
 own_end is.TooLarge status e h = tt
 
-not_memory : {status : ℕ} → IsDecided status → status ≡ 6 → ⊥
+pub not_memory : {status : ℕ} → IsDecided status → status ≡ 6 → ⊥
 not_memory (inl x) six = omega (arith, x, six)
 not_memory (inr (inl x)) six = omega (arith, x, six)
 not_memory (inr (inr x)) six = omega (arith, x, six)
 
 -- the flush changed nothing
-settled : (a b : ℕ) (o ended : Outcome) → Settles a b o ended → IsOwn ended → ended ≡ o
+pub settled : (a b : ℕ) (o ended : Outcome) → Settles a b o ended → IsOwn ended → ended ≡ o
 settled a b o ended (inl (same, e)) own = e
 settled a b o ended (inr (inl (not, rose, e))) own = absurd (subst IsOwn e own)
 settled a b o ended (inr (inr (same, m))) own = absurd (not_both ended m own)
@@ -155,12 +155,12 @@ settled a b o ended (inr (inr (same, m))) own = absurd (not_both ended m own)
     not_both (is.Memory e) m own = own
     not_both is.TooLarge m own = m
 
-settled_read : (a b : ℕ) (o ended : Outcome) → Settles a b o ended → ended ≡ is.ReadFault → o ≡ is.ReadFault
+pub settled_read : (a b : ℕ) (o ended : Outcome) → Settles a b o ended → ended ≡ is.ReadFault → o ≡ is.ReadFault
 settled_read a b o ended (inl (same, e)) h = sym e ∙ h
 settled_read a b o ended (inr (inl (not, rose, e))) h = absurd (let never : is.WriteFault ≡ is.ReadFault = sym e ∙ h in cc)
 settled_read a b o ended (inr (inr (same, m))) h = absurd (subst IsMemory h m)
 
-decided_or_memory : (status : ℕ) → status < 8 → status ≢ 2 → IsNoFault status → IsDecided status ⊎ (status ≡ 6)
+pub decided_or_memory : (status : ℕ) → status < 8 → status ≢ 2 → IsNoFault status → IsDecided status ⊎ (status ≡ 6)
 decided_or_memory status few not_two ok = by_status status few not_two ok
   where
     by_status : (s : ℕ) → s < 8 → s ≢ 2 → IsNoFault s → IsDecided s ⊎ (s ≡ 6)
@@ -174,13 +174,13 @@ decided_or_memory status few not_two ok = by_status status few not_two ok
     by_status (suc (suc (suc (suc (suc (suc (suc zero))))))) few not_two ok = inl (inr (inr refl))
     by_status (suc (suc (suc (suc (suc (suc (suc (suc s)))))))) few not_two ok = absurd (omega (arith, few))
 
-held_long : (bytes : List ℕ → Option (List ℕ)) (names texts : List (List ℕ)) → AreHeld bytes names texts → length names ≡ length texts
+pub held_long : (bytes : List ℕ → Option (List ℕ)) (names texts : List (List ℕ)) → AreHeld bytes names texts → length names ≡ length texts
 held_long bytes [] [] h = refl
 held_long bytes [] (text ∷ texts) h = absurd h
 held_long bytes (name ∷ names) [] h = absurd h
 held_long bytes (name ∷ names) (text ∷ texts) h = omega (arith, held_long bytes names texts h.1)
 
-all_held : (bytes : List ℕ → Option (List ℕ)) (names texts : List (List ℕ)) → AreHeld bytes names texts → AllHeld bytes names
+pub all_held : (bytes : List ℕ → Option (List ℕ)) (names texts : List (List ℕ)) → AreHeld bytes names texts → AllHeld bytes names
 all_held bytes [] [] h = tt
 all_held bytes [] (text ∷ texts) h = absurd h
 all_held bytes (name ∷ names) [] h = absurd h

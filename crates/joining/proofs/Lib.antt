@@ -1,7 +1,15 @@
 pub mod Rules
 pub mod PlanSteps
+pub mod SpliceSteps
 pub mod Events
 pub mod Told
 pub mod NoEvent
 pub mod Answered
 pub mod Calls
+pub mod SpliceEvents
+pub mod SpliceTold
+pub mod SpliceAnswered
+pub mod NoStop
+pub mod HandedFrames
+pub mod Writable
+pub mod Carrying

@@ -27,18 +27,18 @@ use Rattle.joining.specs.Answers.{ArePlanned, NoEventIsAPlan}
 
 -- ---- one event
 
-first_none : (x y : Option Event) → or_event x y ≡ None → (x ≡ None) × (y ≡ None)
+pub first_none : (x y : Option Event) → or_event x y ≡ None → (x ≡ None) × (y ≡ None)
 first_none None y h = (refl, h)
 first_none (Some e) y h = absurd cc
 
-both_none : (x y : Option Event) → x ≡ None → y ≡ None → or_event x y ≡ None
+pub both_none : (x y : Option Event) → x ≡ None → y ≡ None → or_event x y ≡ None
 both_none x y h k = ap (λ (o : Option Event). or_event o y) h ∙ k
 
 rule_none : (k : ℕ) (o : Option SpliceFault) → rule_event k o ≡ None → o ≡ None
 rule_none k None h = refl
 rule_none k (Some e) h = absurd cc
 
-close_none : (k : ℕ) (c : Close) → close_event k c ≡ None → c ≡ Marked End
+pub close_none : (k : ℕ) (c : Close) → close_event k c ≡ None → c ≡ Marked End
 close_none k (Marked End) h = refl
 close_none k (Marked (SyncLost byte)) h = absurd cc
 close_none k (Marked (BadElement frame fault)) h = absurd cc
@@ -46,7 +46,7 @@ close_none k (Marked (Truncated byte)) h = absurd cc
 close_none k (Marked TooLarge) h = absurd cc
 close_none k Unread h = absurd cc
 
-end_none : (k : ℕ) (q : Result Piece SpliceFault) → end_event k q ≡ None → (p : Piece) × (q ≡ Ok p)
+pub end_none : (k : ℕ) (q : Result Piece SpliceFault) → end_event k q ≡ None → (p : Piece) × (q ≡ Ok p)
 end_none k (Ok p) h = (p, refl)
 end_none k (Err e) h = absurd cc
 
@@ -118,7 +118,7 @@ module _ (warm : UsacConfig → ℕ) where
 abbrev AreFine : List Coded → Type 0
 AreFine fs = All (λ f. IsWellFormed f.config) fs
 
-scripts_fine : (texts : List (List ℕ)) (ss : List FileScript) (ps : List Part) → AreScripts texts ss → map (λ p. p.stream) ps ≡ map coded_of ss → All (λ p. AreFine p.stream) ps
+pub scripts_fine : (texts : List (List ℕ)) (ss : List FileScript) (ps : List Part) → AreScripts texts ss → map (λ p. p.stream) ps ≡ map coded_of ss → All (λ p. AreFine p.stream) ps
 scripts_fine texts ss [] are e = All-nil (λ p. AreFine p.stream)
 scripts_fine [] [] (p ∷ ps) are e = absurd cc
 scripts_fine [] (s ∷ ss) (p ∷ ps) are e = absurd are

@@ -90,7 +90,7 @@ module _ (d : Definitions) (at : PieceAt) (before : List Frame) (f : Frame) (con
   pub same_coded : record { config = config; au = au } ≡ coded f
   same_coded = ap (λ (c : UsacConfig). let x : Coded = record { config = c; au = au } in x) ce ∙ ap (λ (a : List ℕ). let x : Coded = record { config = config_of f; au = a } in x) ae
 
-  there : fault r.run (d.warm config) (record { config = config; au = au }) ≡ fault (run_at at before) (d.warm (config_of f)) (coded f)
+  pub there : fault r.run (d.warm config) (record { config = config; au = au }) ≡ fault (run_at at before) (d.warm (config_of f)) (coded f)
   there =
       ap (λ (v : RunValue). fault v (d.warm config) (record { config = config; au = au })) st.run
       ∙ (ap (λ (c : UsacConfig). fault (run_at at before) (d.warm c) (record { config = config; au = au })) ce ∙ ap (fault (run_at at before) (d.warm (config_of f))) same_coded)
@@ -98,7 +98,7 @@ module _ (d : Definitions) (at : PieceAt) (before : List Frame) (f : Frame) (con
   pub behind_there : behind r.run (record { config = config; au = au }) ≡ run_at at (before ++ f ∷ [])
   behind_there = ap (λ (v : RunValue). behind v (record { config = config; au = au })) st.run ∙ (ap (behind (run_at at before)) same_coded ∙ sym (run_at_push at before f))
 
-  turn_there : turn r.run (record { config = config; au = au }) ≡ turn (run_at at before) (coded f)
+  pub turn_there : turn r.run (record { config = config; au = au }) ≡ turn (run_at at before) (coded f)
   turn_there = ap (λ (v : RunValue). turn v (record { config = config; au = au })) st.run ∙ ap (turn (run_at at before)) same_coded
 
   -- it breaks no rule

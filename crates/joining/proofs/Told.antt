@@ -75,7 +75,7 @@ never_ended : (v : RunValue) (fs : List Coded) → v.ended ≡ false → (run_ov
 never_ended v [] h = h
 never_ended v (f ∷ fs) h = never_ended (behind v f) fs h
 
-going_at : (at : PieceAt) (frames : List Frame) → (run_at at frames).ended ≡ false
+pub going_at : (at : PieceAt) (frames : List Frame) → (run_at at frames).ended ≡ false
 going_at at frames = never_ended (new_run (asked_at at)) (map coded frames) refl
 
 drop_more : (k : ℕ) (xs : List ℕ) (x : ℕ) (ys : List ℕ) → drop k xs ≡ x ∷ ys → drop (suc k) xs ≡ ys
@@ -95,20 +95,20 @@ next_is k xs x ys h =
     ap (λ (i : ℕ). first_position (drop i xs)) e ∙ ap first_position (drop_more k xs x ys h)
 
 -- what is asked there
-asked_is : (at : PieceAt) (x : ℕ) (ats : List ℕ) → Comes at (x ∷ ats) → asked_at at ≡ asked at.place x (first_position ats) at.before
+pub asked_is : (at : PieceAt) (x : ℕ) (ats : List ℕ) → Comes at (x ∷ ats) → asked_at at ≡ asked at.place x (first_position ats) at.before
 asked_is at x ats h =
     ap (λ (n : ℕ). asked at.place n (next_position at.place at.positions) at.before) (position_is at.place at.positions x ats h)
     ∙ ap (λ (o : Option ℕ). asked at.place x o at.before) (next_is at.place at.positions x ats h)
 
 -- another piece is behind it
-next_there : (k : ℕ) (xs : List ℕ) (x y : ℕ) (ys : List ℕ) → drop k xs ≡ x ∷ y ∷ ys → next_place k xs ≡ k + 1
+pub next_there : (k : ℕ) (xs : List ℕ) (x y : ℕ) (ys : List ℕ) → drop k xs ≡ x ∷ y ∷ ys → next_place k xs ≡ k + 1
 next_there k xs x y ys h =
     let long : length (drop k xs) ≡ length (x ∷ y ∷ ys) = ap (λ (zs : List ℕ). length zs) h in
     let left = length-drop k xs in
     let lt : nat_lt (k + 1) (length xs) ≡ true = lt-ltb (k + 1) (length xs) (omega (arith, long, left)) in
     ap (λ (b : Bool). if b then k + 1 else k) lt
 
-next_comes : (at : PieceAt) (x : ℕ) (ats : List ℕ) (frames : List Frame) → Comes at (x ∷ ats) → Comes (next_at at frames) ats
+pub next_comes : (at : PieceAt) (x : ℕ) (ats : List ℕ) (frames : List Frame) → Comes at (x ∷ ats) → Comes (next_at at frames) ats
 next_comes at x [] frames h = tt
 next_comes at x (y ∷ ats) frames h =
     let e : at.place + 1 ≡ suc at.place = omega arith in
@@ -127,7 +127,7 @@ lines_on warm at x (y ∷ ats) frames ss before h = ap (λ (k : ℕ). files_line
 
 -- ---- written bytes
 
-wrote_both : (w0 w1 w2 : Option (List ℕ)) (xs ys : List ℕ) → w1 ≡ append_known w0 xs → w2 ≡ append_known w1 ys → w2 ≡ append_known w0 (xs ++ ys)
+pub wrote_both : (w0 w1 w2 : Option (List ℕ)) (xs ys : List ℕ) → w1 ≡ append_known w0 xs → w2 ≡ append_known w1 ys → w2 ≡ append_known w0 (xs ++ ys)
 wrote_both None w1 w2 xs ys a b = b ∙ ap (λ (w : Option (List ℕ)). append_known w ys) a
 wrote_both (Some w) w1 w2 xs ys a b = b ∙ (ap (λ (u : Option (List ℕ)). append_known u ys) a ∙ ap (λ (z : List ℕ). let o : Option (List ℕ) = Some z in o) (append_assoc w xs ys))
 
@@ -247,10 +247,10 @@ module _ (d : Definitions) where
 
   -- ---- all files
 
-  idle : (t : Traces) → t.written_after ≡ t.written_before → t.written_after ≡ append_known t.written_before []
+  pub idle : (t : Traces) → t.written_after ≡ t.written_before → t.written_after ≡ append_known t.written_before []
   idle t e = e ∙ append-none t.written_before
 
-  not_own : (o : Outcome) → IsNotBegun o → IsOwn o → ⊥
+  pub not_own : (o : Outcome) → IsNotBegun o → IsOwn o → ⊥
   not_own is.Done n own = n
   not_own (is.Refused words) n own = n
   not_own is.ReadFault n own = own

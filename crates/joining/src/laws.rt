@@ -2,6 +2,7 @@
 //!
 //! The functions run no code; their contracts are the theorems.
 ghost use Rattle.joining.specs.Answers.{NoEventIsAPlan};
+ghost use Rattle.joining.specs.SpliceAnswers.{NoStopIsASplice};
 
 /// The files of pieces have no event exactly where each ends behind its last frame, and the renditions are the streams of a sound plan
 /// that is timed by the positions.
@@ -10,4 +11,17 @@ pub fn no_event_is_a_sound_plan()
 {
     timeline::laws::orders_are_judged();
     splicer::laws::sound_plans_are_given();
+}
+
+/// Where `splice` refuses no frame and no file of the pieces, the renditions are the streams of a sound plan, and the bytes that it
+/// writes are a file that carries the splice of this plan, if a file may have so many: its frames are those of the pieces, in order,
+/// and it ends behind them. So what is said of `play` of a file that carries the splice of a sound plan is said of it.
+pub fn spliced_files_carry_the_splice()
+    ensures { NoStopIsASplice }
+{
+    timeline::laws::orders_are_judged();
+    splicer::laws::sound_plans_are_given();
+    splicer::laws::sound_pieces_are_given();
+    splicer::laws::given_frames_are_the_piece();
+    au_stream::laws::canonical_frames_are_read_back();
 }

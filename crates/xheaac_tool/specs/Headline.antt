@@ -12,7 +12,8 @@ use Rattle.playing.specs.Playing.{playing}
 use Rattle.playing.specs.SoundStarts.{AnswersStart}
 use Rattle.playing.specs.Starting.{starting}
 use Rattle.joining.specs.Answers.{PlansSoundly}
-use Rattle.xheaac_tool.specs.Words.{Case, Play, Start, Plan, PieceWords, files_of, positions_of}
+use Rattle.joining.specs.SpliceAnswers.{SplicesSoundly}
+use Rattle.xheaac_tool.specs.Words.{Case, Play, Start, Plan, Splice, PieceWords, files_of, positions_of}
 
 -- The shelf tells these bytes of FILE; and shelf, out and core are calm for the command, or no count of their faults rose.
 abbrev pub GoesWell : {H K C : Type 0} → Command → List ℕ → List ℕ → World H K C → World H K C → Type 0
@@ -33,6 +34,11 @@ abbrev pub PlansPieces : {H K C : Type 0} → Definitions → Option Case → Wo
 PlansPieces d case before after n status =
     (pieces : List PieceWords) (texts : List (List ℕ)) → case ≡ Some (Plan pieces) → AreHeld before.bytes (files_of pieces) texts → PlansSoundly d (positions_of pieces) (files_of pieces) texts before after n status
 
+-- and to `splice FILE POS [FILE POS]...`
+abbrev pub SplicesPieces : {H K C : Type 0} → Definitions → Option Case → World H K C → World H K C → Notes → ℕ → Type 0
+SplicesPieces d case before after n status =
+    (pieces : List PieceWords) (texts : List (List ℕ)) → case ≡ Some (Splice pieces) → AreHeld before.bytes (files_of pieces) texts → SplicesSoundly d (positions_of pieces) (files_of pieces) texts before after n status
+
 -- What is answered to single commands, beyond what each call of a command promises.
 pub record Promises {H K C : Type 0} (d : Definitions) (case : Option Case) (before after : World H K C) (n : Notes) (status : ℕ) : Type 0 where
   -- The headline. Where FILE carries the splice of whole streams at sound joins, `play FILE` writes each frame of the timeline once,
@@ -45,3 +51,6 @@ pub record Promises {H K C : Type 0} (d : Definitions) (case : Option Case) (bef
   -- The first event of the files decides what `plan` answers and tells; and there is none exactly where they are the streams of a sound
   -- plan that is timed by the positions.
   pub plans : PlansPieces d case before after n status
+  -- So it decides what `splice` answers, and which frames it writes; and where there is none, these carry the splice of the plan, so that
+  -- `play` of them is answered by `splices`.
+  pub joins : SplicesPieces d case before after n status

@@ -1,12 +1,12 @@
 //! The commands of the program, over a shelf of files, two sinks and a core. [`run`] reads the words of
 //! the command line, does what they ask for, and answers the status. Its contract says, from the bytes
 //! of the files alone, what was written, what was noted and which status is answered; and where a device
-//! or the core fails, what was written before. [`do_show`], [`do_check`], [`do_play`], [`do_start`] and
-//! [`do_plan`] are the commands without their note, for a program that has its own.
+//! or the core fails, what was written before. [`do_show`], [`do_check`], [`do_play`], [`do_start`],
+//! [`do_plan`] and [`do_splice`] are the commands without their note, for a program that has its own.
 //!
 //! What they share is the crate `commands`: its runners go over the frames of a file for any task. The
 //! tasks are `show_task` and `check_task`, in the crate `playing` those of `play` and `start`, and in
-//! the crate `joining` that of `plan`.
+//! the crate `joining` those of `plan` and `splice`.
 #![tactic(auto)]
 
 mod check;
@@ -18,6 +18,7 @@ mod plan;
 mod play;
 mod show;
 mod show_task;
+mod splice;
 mod start;
 mod top;
 mod unit_frame;
@@ -28,6 +29,7 @@ pub use commands::Outcome;
 pub use plan::do_plan;
 pub use play::do_play;
 pub use show::do_show;
+pub use splice::do_splice;
 pub use start::do_start;
 pub use top::{run, run_line};
 pub use words::WordsFault;

@@ -13,11 +13,12 @@ use crate::check::do_check;
 use crate::plan::do_plan;
 use crate::play::do_play;
 use crate::show::do_show;
+use crate::splice::do_splice;
 use crate::start::do_start;
 use crate::words::{Asked, WordsFault, read_words};
 use commands::{OUT_OF_MEMORY, Outcome, finish, report};
 use core_iface::Core;
-use joining::laws::no_event_is_a_sound_plan;
+use joining::laws::{no_event_is_a_sound_plan, spliced_files_carry_the_splice};
 use outside::{Shelf, Sink};
 use playing::laws::{play_takes_splices_alone, start_takes_sound_starts};
 use std::alloc::Global;
@@ -46,6 +47,7 @@ fn do_asked<H: Shelf, K: Sink, C: Core>(
         Asked::Play { .. } => do_play(alloc, words, shelf, out, core),
         Asked::Start { .. } => do_start(alloc, words, shelf, out, core),
         Asked::Plan { .. } => do_plan(alloc, words, shelf, out, core),
+        Asked::Splice { .. } => do_splice(alloc, words, shelf, out, core),
     }
 }
 
@@ -101,13 +103,15 @@ pub fn run<H: Shelf, K: Sink, N: Sink, C: Core>(
     // frame of the timeline once, in order, with the samples of its own stream decoded alone, and with the fades of fading joins;
     // any other file is refused at its first faulty frame, behind the samples of the frames before it. In `starts`: where FILE
     // carries a whole stream with a sound start at FRAME, `start FILE FRAME` plays it from there on as decoded alone. In `plans`: the
-    // first event of the files decides what `plan` answers, and there is none exactly where they make a sound plan.
+    // first event of the files decides what `plan` answers, and there is none exactly where they make a sound plan. In `joins`: so it
+    // decides what `splice` answers and writes, and without one the bytes carry the splice of that plan.
     ensures promises { Promises C.does (case_of (texts words.now)) (world H.Shelf K.Sink C.Core shelf.old out.old core.old)
         (world H.Shelf K.Sink C.Core shelf.new out.new core.new) (notes N.Sink note.old note.new) result }
 {
     play_takes_splices_alone::<C>();
     start_takes_sound_starts::<C>();
     no_event_is_a_sound_plan();
+    spliced_files_carry_the_splice();
     answer(alloc, words, shelf, out, note, core)
 }
 

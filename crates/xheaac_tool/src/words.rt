@@ -27,6 +27,7 @@ pub enum Asked<'a> {
     Play { file: &'a str },
     Start { file: &'a str, frame: u64 },
     Plan { pieces: Pairs<'a> },
+    Splice { pieces: Pairs<'a> },
 }
 
 /// The one FILE that most commands ask for.
@@ -64,6 +65,7 @@ pub fn read_words<'a>(words: &'a [String]) -> Option<Asked<'a>>
         "play" => only_word(others).map(|file| Asked::Play { file }),
         "start" => read_start(others),
         "plan" => Pairs::read(others).map(|pieces| Asked::Plan { pieces }),
+        "splice" => Pairs::read(others).map(|pieces| Asked::Splice { pieces }),
         _ => None,
     }
 }

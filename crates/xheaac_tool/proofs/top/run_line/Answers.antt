@@ -12,4 +12,5 @@ returns-in-Ok-clause-promises g c =
       splices = λ file text asked well. promises.splices file text (same ∙ asked) well;
       starts = λ file text frame asked well. promises.starts file text frame (same ∙ asked) well;
       plans = λ pieces files asked held. promises.plans pieces files (same ∙ asked) held;
+      joins = λ pieces files asked held. promises.joins pieces files (same ∙ asked) held;
     })

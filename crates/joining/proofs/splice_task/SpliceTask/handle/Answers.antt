@@ -1,0 +1,29 @@
+use Rattle.std.proofs.Common.{◌≡◌, [], ◌∷◌, ◌++◌, ap, ◌∙◌}
+use Rattle.std.proofs.lemmas.Result.{err_from_is_err_and}
+use Rattle.au_stream.specs.Frames.{config_of}
+use Rattle.joining.proofs.PlanSteps.{rendition_stands}
+use Rattle.joining.proofs.SpliceSteps.{splice_handles, splice_stopped, splice_stands}
+use Rattle.joining.proofs.splice_task.SpliceTask.handle.Goals as goal
+
+pub returns-in_err-turn-clause-handles : goal.returns-in_err-turn-clause-handles
+returns-in_err-turn-clause-handles g c = λ at before f event mux st.
+    let au = c.as_slice-au.ensures ∙ (c.in_ok-au.ensures ∙ event.au) in
+    let p = err_from_is_err_and c.from_residual-in_err-turn.result c.from_residual-in_err-turn.ensures.1 in
+    rw (p.1, p.2) (splice_stopped g.C.Core.does at before f c.args.mux.now _ c.args.self.now.renditions mux au st.rendition _ _ _ c.in_err-turn.ensures.checks)
+
+pub returns-clause-handles : goal.returns-clause-handles
+returns-clause-handles g c = λ at before f event mux st.
+    let au = c.as_slice-au.ensures ∙ (c.in_ok-au.ensures ∙ event.au) in
+    let checks = c.in_ok-turn.ensures.checks in
+    splice_handles g.C.Core.does at before f c.args.mux.now _ c.args.self.now.renditions mux au st.rendition _ _ _ _ _ c.hand_over.result checks.0 checks.1 (c.frame.ensures ∙ event.number) c.hand_over.ensures.hands
+
+pub returns-clause-stands : goal.returns-clause-stands
+returns-clause-stands g c = λ at before f event mux st.
+    let config : c.args.mux.now.asc.usac ≡ config_of f = ap (λ m. m.asc.usac) mux in
+    let au = c.as_slice-au.ensures ∙ (c.in_ok-au.ensures ∙ event.au) in
+    let checks = c.in_ok-turn.ensures.checks in
+    splice_stands at (before ++ f ∷ []) c.feed.new.self c.hand_over.result
+    (rendition_stands g.C.Core.does at before f c.args.mux.now.asc.usac _ c.args.self.now.renditions config au st.rendition _ checks.2 c.in_ok-turn.ensures.positions c.in_ok-turn.ensures.place)
+
+pub returns-clause-caused : goal.returns-clause-caused
+returns-clause-caused g c = c.hand_over.ensures.caused _
