@@ -20,6 +20,8 @@ mod refusals;
 #[cfg(test)]
 mod shows;
 #[cfg(test)]
+mod splice_rows;
+#[cfg(test)]
 mod starts;
 #[cfg(test)]
 mod streams;
