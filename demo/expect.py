@@ -1,13 +1,15 @@
 #!/usr/bin/env python3
-"""Says what `xheaac show FILE`, `xheaac check FILE`, `xheaac play FILE`, `xheaac start FILE FRAME` and `xheaac plan FILE POS [FILE POS]...`
-are to do, by a reader of its own: expect.py with the same words writes the same bytes and the same note, and ends with the same
-status. It shares no code with the program. It reads a stream in any mux of one program and one layer, says at which bit or byte it
-is at fault, judges its prerolls, plays it by the rules of a player and of the example core, and judges whether pieces can be joined."""
+"""Says what `xheaac show FILE`, `xheaac check FILE`, `xheaac play FILE`, `xheaac start FILE FRAME`, `xheaac plan FILE POS [FILE POS]...`
+and `xheaac splice FILE POS [FILE POS]...` are to do, by a reader of its own: expect.py with the same words writes the same bytes and the
+same note, and ends with the same status. It shares no code with the program. It reads a stream in any mux of one program and one layer,
+says at which bit or byte it is at fault, judges its prerolls, plays it by the rules of a player and of the example core, judges whether
+pieces can be joined, and joins them."""
 import struct
 import sys
 
 from layouts import Fault, PreRoll
-from plans import plan
+from plans import Piece, on_pieces
+from splices import Handed
 from streams import WARM_UP, Broken, Stop, carried, frames_of, read_unit, refused, text_of
 
 # how many times a fade has
@@ -199,6 +201,7 @@ def run(command, octets):
 
 
 COMMANDS = {"check": Check, "play": Play, "show": Show, "start": Start}
+ON_PIECES = {"plan": Piece, "splice": Handed}
 
 
 def expected(word, octets, *numbers):
@@ -213,8 +216,9 @@ def read(name):
 
 def answer(word, *words):
     """What the command with these words writes, notes and ends with."""
-    if word == "plan":
-        return plan([lambda name=name: read(name) for name in words[::2]], [int(position) for position in words[1::2]])
+    if word in ON_PIECES:
+        files = [lambda name=name: read(name) for name in words[::2]]
+        return on_pieces(ON_PIECES[word], files, [int(position) for position in words[1::2]])
     return expected(word, read(words[0]), *map(int, words[1:]))
 
 

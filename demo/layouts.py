@@ -219,7 +219,7 @@ class Specific:
     """AudioSpecificConfig. It is counted where its end is known; then up to 7 bits may follow."""
 
     def __init__(self, text, counted=None):
-        behind = text.end
+        begin, behind = text.at, text.end
         text.lacking = "configuration too short"
         if counted is not None:
             text.end = text.at + counted
@@ -228,6 +228,7 @@ class Specific:
         self.rate = text.number(24) if self.index == 15 else None  # samplingFrequency
         self.channels = text.number(4)  # channelConfiguration
         self.usac = Configuration(text)
+        self.spelling = text.bits[begin : text.at]
         self.tail = 0 if counted is None else text.left()
         if self.tail > 7:
             raise Fault(text.at, "configuration tail too long")

@@ -1,4 +1,5 @@
-"""Judges whether pieces of files can be joined at positions, and tells each on a line: `plan` of expect.py."""
+"""Judges whether pieces of files can be joined at positions, and tells each on a line: `plan` of expect.py. Its rules are those of
+`splice` too."""
 from streams import WARM_UP, Broken, Stop, carried, frames_of, read_unit, refused, text_of
 
 
@@ -62,8 +63,12 @@ class Piece:
             self.begin(frame, unit)
         self.units.append(unit)
 
-    def line(self, frames):
-        """What is told of the piece, in a file of so many frames."""
+    def write(self, frame):
+        """What is written of a frame that was judged."""
+        return b""
+
+    def ends(self, frames):
+        """The first frame of the piece and the one behind it, in a file of so many frames."""
         if not frames or self.position // self.usac.samples >= frames:
             raise Refused("past end")
         first, last = self.position // self.usac.samples, frames
@@ -71,20 +76,26 @@ class Piece:
             last = self.until // self.usac.samples
         if last > frames:
             raise Refused("past end")
-        return f"piece {self.number} frames {first} to {last} carried {self.carried} fade {self.fade}"
+        return first, last
+
+    def close(self, first, last):
+        """What is written at the end of the file."""
+        line = f"piece {self.number} frames {first} to {last} carried {self.carried} fade {self.fade}"
+        return text_of([line])
 
 
-def planned(piece, octets):
-    """The line of a piece. What refuses it names the piece."""
+def write_piece(piece, octets, written):
+    """Adds what is written for a file. What refuses it names the piece."""
     frames = 0
     try:
         for frame in frames_of(octets):
             try:
                 piece.judge(frame)
+                written.append(piece.write(frame))
             except Broken as broken:
                 raise refused(f"frame {frame.number}", broken) from broken
             frames += 1
-        return piece.line(frames)
+        written.append(piece.close(*piece.ends(frames)))
     except Refused as rule:
         raise refused(f"piece {piece.number}", rule) from rule
     except Stop as stop:
@@ -93,9 +104,10 @@ def planned(piece, octets):
         raise
 
 
-def plan(files, positions):
-    """What `plan` writes, notes and ends with: of files, each of which is a call that gives its bytes, and as many positions."""
-    lines, before = [], None
+def on_pieces(kind, files, positions):
+    """What a command on pieces writes, notes and ends with: of files, each of which is a call that gives its bytes, and as many
+    positions."""
+    written, before = [], None
     try:
         for number in range(1, len(positions)):
             if positions[number] <= positions[number - 1]:
@@ -105,9 +117,9 @@ def plan(files, positions):
                 octets = file()
             except OSError as fault:
                 raise Stop("read fault\n", 3) from fault
-            piece = Piece(number, position, until, before)
-            lines.append(planned(piece, octets))
+            piece = kind(number, position, until, before)
+            write_piece(piece, octets, written)
             before = piece.usac
     except Stop as stop:
-        return text_of(lines), stop.note.encode(), stop.status
-    return text_of(lines), b"", 0
+        return b"".join(written), stop.note.encode(), stop.status
+    return b"".join(written), b"", 0
