@@ -20,8 +20,6 @@ mod refusals;
 #[cfg(test)]
 mod shows;
 #[cfg(test)]
-mod splice_lengths;
-#[cfg(test)]
 mod splice_rows;
 #[cfg(test)]
 mod starts;
