@@ -1,8 +1,9 @@
 // Worked rows of `splice`.
+use crate::cases::Pieces::{Bytes, Large};
 use crate::cases::{Failing, NOTHING, Pieces, Row, USAGE, check_both, check_row, joined};
 use crate::streams::{
-    BARE, BEFORE, BEHIND, CARRIES_ONE, FADED, FIRST, IMMEDIATE, IMMEDIATE_FRAME, JOIN, JOINED, OWN,
-    PLAIN, TWO_SLOTS, VERSION_1,
+    BARE, BEFORE, BEHIND, CARRIES_BOTH, CARRIES_ONE, EMPTIED, FADED, FIRST, IMMEDIATE,
+    IMMEDIATE_FRAME, JOIN, JOINED, OWN, PLAIN, TWO_SLOTS, TWO_SLOTS_REFUSED, VERSION_1,
 };
 use std::alloc::{AllocError, Global};
 use std::process::Abort;
@@ -32,6 +33,17 @@ const SPLICED: &[Spliced] = &[
         EIGHT,
         &[OWN, "56E01187E0C81908E600C72000209000181C0000", BEHIND],
         FADED,
+        "",
+    ),
+    // the joining frame carries two units
+    (
+        AT_4096,
+        EIGHT,
+        CARRIES_BOTH,
+        &[
+            BEFORE,
+            "56E01D2000F94623611CC010B207F82183586C23980216408000680000610200",
+        ],
         "",
     ),
     // one stream, from its first frame on, and from within it
@@ -82,6 +94,28 @@ const REFUSED: &[Spliced] = &[
         "refused: piece 1: frame 4: foreign preroll unit 0\n",
     ),
     (
+        AT_4096,
+        EIGHT,
+        &["56E00F2000F94624211CC018E400043FC000"],
+        &[BEFORE],
+        "refused: piece 1: rate differs\n",
+    ),
+    (
+        AT_4096,
+        EIGHT,
+        &["56E0102000F94623221CC018E400043FC01900"],
+        &[BEFORE],
+        "refused: piece 1: channels differ\n",
+    ),
+    // the frames that are there were written
+    (
+        &["splice", "in", "0", "more", "9216"],
+        EIGHT,
+        IMMEDIATE,
+        EIGHT,
+        "refused: piece 0: past end\n",
+    ),
+    (
         &["splice", "in", "0", "more", "8192"],
         EIGHT,
         IMMEDIATE,
@@ -125,12 +159,44 @@ const REFUSED: &[Spliced] = &[
         &[BEFORE, JOIN],
         "refused: piece 1: byte 57: truncated\n",
     ),
+    (
+        AT_4096,
+        EIGHT,
+        TWO_SLOTS_REFUSED,
+        &[BEFORE],
+        "refused: piece 1: frame 2 bit 2: out of profile: audioMuxVersionA\n",
+    ),
+    // the first one behind its piece, and at a frame of it
+    (
+        AT_4096,
+        &[EIGHT_FRAMES, "57"],
+        IMMEDIATE,
+        &[BEFORE],
+        "refused: piece 0: byte 61: sync lost\n",
+    ),
+    (
+        ALONE,
+        EMPTIED,
+        &[],
+        &[FIRST],
+        "refused: piece 0: frame 1 bit 0: frame too short\n",
+    ),
+    (
+        ALONE,
+        &["56E0102000F94623211CC018E400023FC01200", BEHIND],
+        &[],
+        &[],
+        "refused: piece 0: frame 0: not independent\n",
+    ),
     (ALONE, &[], &[], &[], "refused: piece 0: past end\n"),
 ];
 
-// The words, the number of the write that fails, what is written, the note, and the status.
+// The words, how much is taken at once, the number of the read that fails, that of the write, what is written, the note, and the
+// status.
 type Failed = (
     &'static [&'static str],
+    Pieces,
+    u64,
     u64,
     &'static [&'static str],
     &'static str,
@@ -139,18 +205,40 @@ type Failed = (
 
 const FAILED: &[Failed] = &[
     // one write a frame
-    (AT_4096, 1, &[], "write fault\n", 4),
-    (AT_4096, 5, &[BEFORE], "write fault\n", 4),
-    // a file that the shelf does not hold
+    (AT_4096, Large, 0, 1, &[], "write fault\n", 4),
+    (AT_4096, Large, 0, 5, &[BEFORE], "write fault\n", 4),
+    (AT_4096, Large, 0, 6, &[BEFORE, JOIN], "write fault\n", 4),
+    (AT_4096, Large, 0, 9, JOINED, "", 0),
+    // two reads of each file
+    (AT_4096, Large, 1, 0, &[], "read fault\n", 3),
+    (AT_4096, Large, 2, 0, &[BEFORE], "read fault\n", 3),
+    (AT_4096, Large, 3, 0, &[BEFORE], "read fault\n", 3),
+    (AT_4096, Large, 4, 0, JOINED, "read fault\n", 3),
+    // each frame is written before more is read: the first one has 19 bytes
+    (AT_4096, Bytes, 19, 1, &[], "read fault\n", 3),
+    (AT_4096, Bytes, 20, 1, &[], "write fault\n", 4),
+    // a file that the shelf does not hold is begun when its turn comes
     (
         &["splice", "in", "0", "none", "4096"],
+        Large,
+        0,
         0,
         &[BEFORE],
         "read fault\n",
         3,
     ),
-    (&["splice"], 0, &[], USAGE, 2),
-    (&["splice", "in", "0", "more"], 0, &[], USAGE, 2),
+    (
+        &["splice", "in", "0", "none", "4096"],
+        Large,
+        0,
+        1,
+        &[],
+        "write fault\n",
+        4,
+    ),
+    (&["splice"], Large, 0, 0, &[], USAGE, 2),
+    (&["splice", "in", "0", "more"], Large, 0, 0, &[], USAGE, 2),
+    (&["splice", "in", "-1"], Large, 0, 0, &[], USAGE, 2),
 ];
 
 // `splice` does not use the core: the first call of it fails.
@@ -176,6 +264,10 @@ const TOO_LONG: &str =
 const LONGEST_JOIN: &str =
     "56FFFF2000F94623211CC018E400043FCFFFFFFFFFFFFFFFFFFFFFFFFFFFFFFFFFFFFFFFFFFFFFFFFFFFFFFFFFFFFFFF0C1903211CC018E400040200030380";
 
+// A frame that goes on, whose access unit has 8158 bytes, of which the first is A0: its element has 8191 as well.
+const LONGEST_PLAYED: &str =
+    "56FFFFFFFFFFFFFFFFFFFFFFFFFFFFFFFFFFFFFFFFFFFFFFFFFFFFFFFFFFFFFFFFFFFED0";
+
 // So many bytes 0, as hexadecimal digits.
 fn zeros(alloc: Global, bytes: usize) -> Result<String, AllocError> {
     let mut text = String::new(alloc);
@@ -185,7 +277,7 @@ fn zeros(alloc: Global, bytes: usize) -> Result<String, AllocError> {
     Ok(text)
 }
 
-// A joining frame whose element has the most bytes that a LOAS frame holds, and one more.
+// A joining frame whose element has the most bytes that a LOAS frame holds, and one more; and one that goes on, with the most.
 fn check_long(rt: &(impl Abort + AllocGlobal)) -> Result<(), Fail> {
     let alloc = rt.alloc();
     let behind = zeros(alloc, 8132)?;
@@ -196,7 +288,7 @@ fn check_long(rt: &(impl Abort + AllocGlobal)) -> Result<(), Fail> {
         ..SPLICE
     };
     let wanted = joined(alloc, &[BEFORE, LONGEST_JOIN, written.as_str(), BEHIND])?;
-    check_row(rt, Pieces::Large, &row, &wanted)?;
+    check_row(rt, Large, &row, &wanted)?;
     let more = [OWN, TOO_LONG, behind.as_str(), "00", BEHIND];
     let row = Row {
         more: &more,
@@ -204,7 +296,15 @@ fn check_long(rt: &(impl Abort + AllocGlobal)) -> Result<(), Fail> {
         status: 1,
         ..SPLICE
     };
-    check_row(rt, Pieces::Large, &row, &joined(alloc, &[BEFORE])?)
+    check_row(rt, Large, &row, &joined(alloc, &[BEFORE])?)?;
+    let behind = zeros(alloc, 8158)?;
+    let file = [OWN, LONGEST_PLAYED, behind.as_str()];
+    let row = Row {
+        words: ALONE,
+        file: &file,
+        ..SPLICE
+    };
+    check_row(rt, Large, &row, &joined(alloc, &file)?)
 }
 
 #[test]
@@ -223,10 +323,11 @@ fn splices_pieces(rt: HostRuntime) -> Result<(), Fail> {
             check_both(&rt, &row, &joined(alloc, parts)?)?;
         }
     }
-    for (words, write, parts, note, status) in FAILED {
+    for (words, pieces, read, write, parts, note, status) in FAILED {
         let row = Row {
             words,
             failing: Failing {
+                read: *read,
                 write: *write,
                 ..SPLICE.failing
             },
@@ -234,7 +335,7 @@ fn splices_pieces(rt: HostRuntime) -> Result<(), Fail> {
             status: *status,
             ..SPLICE
         };
-        check_row(&rt, Pieces::Large, &row, &joined(alloc, parts)?)?;
+        check_row(&rt, *pieces, &row, &joined(alloc, parts)?)?;
     }
     check_long(&rt)
 }
