@@ -342,9 +342,8 @@ fn check_pieces(
     }
     let row = Row {
         words: words.as_slice(),
-        note,
         status,
-        ..PLAN
+        ..refused(EIGHT, IMMEDIATE, note)
     };
     check_row(rt, Pieces::Large, &row, b"")
 }

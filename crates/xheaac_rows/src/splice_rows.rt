@@ -277,32 +277,32 @@ fn zeros(alloc: Global, bytes: usize) -> Result<String, AllocError> {
     Ok(text)
 }
 
+fn splicing<'a>(file: &'a [&'a str], more: &'a [&'a str], note: &'a str) -> Row<'a> {
+    Row {
+        file,
+        more,
+        note,
+        status: if note.is_empty() { 0 } else { 1 },
+        ..SPLICE
+    }
+}
+
 // A joining frame whose element has the most bytes that a LOAS frame holds, and one more; and one that goes on, with the most.
 fn check_long(rt: &(impl Abort + AllocGlobal)) -> Result<(), Fail> {
     let alloc = rt.alloc();
     let behind = zeros(alloc, 8132)?;
     let written = zeros(alloc, 8131)?;
     let more = [OWN, LONGEST, behind.as_str(), BEHIND];
-    let row = Row {
-        more: &more,
-        ..SPLICE
-    };
     let wanted = joined(alloc, &[BEFORE, LONGEST_JOIN, written.as_str(), BEHIND])?;
-    check_row(rt, Large, &row, &wanted)?;
+    check_row(rt, Large, &splicing(EIGHT, &more, ""), &wanted)?;
     let more = [OWN, TOO_LONG, behind.as_str(), "00", BEHIND];
-    let row = Row {
-        more: &more,
-        note: "refused: piece 1: frame 4: too long\n",
-        status: 1,
-        ..SPLICE
-    };
+    let row = splicing(EIGHT, &more, "refused: piece 1: frame 4: too long\n");
     check_row(rt, Large, &row, &joined(alloc, &[BEFORE])?)?;
     let behind = zeros(alloc, 8158)?;
     let file = [OWN, LONGEST_PLAYED, behind.as_str()];
     let row = Row {
         words: ALONE,
-        file: &file,
-        ..SPLICE
+        ..splicing(&file, IMMEDIATE, "")
     };
     check_row(rt, Large, &row, &joined(alloc, &file)?)
 }
@@ -314,11 +314,7 @@ fn splices_pieces(rt: HostRuntime) -> Result<(), Fail> {
         for (words, file, more, parts, note) in rows {
             let row = Row {
                 words,
-                file,
-                more,
-                note,
-                status: if note.is_empty() { 0 } else { 1 },
-                ..SPLICE
+                ..splicing(file, more, note)
             };
             check_both(&rt, &row, &joined(alloc, parts)?)?;
         }
