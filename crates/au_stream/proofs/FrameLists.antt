@@ -1,7 +1,8 @@
 -- The frames of lists of elements.
-use Rattle.std.proofs.Common.{◌≡◌, List, [], ◌∷◌, ◌++◌, Option, Some, refl, sym, ap, ◌∙◌, append_assoc}
+use Rattle.std.proofs.Common.{◌≡◌, List, [], ◌∷◌, ◌++◌, length, Option, Some, refl, sym, ap, ◌∙◌, append_assoc, arith, inl, inr}
+use Rattle.std.specs.Prelude.{◌⊎◌}
 use Rattle.std.specs.Prelude.{is_some}
-use Rattle.std.proofs.lemmas.List.{append-nil}
+use Rattle.std.proofs.lemmas.List.{append-nil, length-append}
 use Rattle.latm.specs.declared.mux_config.MuxConfig.{MuxConfig}
 use Rattle.latm.specs.declared.mux_element.MuxElement.{MuxElement}
 use Rattle.latm.specs.MuxElement.{then_in_force}
@@ -25,3 +26,21 @@ pub last-push : (fs : List Frame) (f : Frame) → last_of (fs ++ f ∷ []) ≡ S
 last-push [] f = refl
 last-push (g ∷ []) f = refl
 last-push (g ∷ h ∷ fs) f = last-push (h ∷ fs) f
+
+-- ---- all elements but the last
+
+apart : (ys : List MuxElement) (x b y : MuxElement) → x ∷ [] ≡ b ∷ (ys ++ y ∷ []) → ⊥
+apart ys x b y e = omega (arith, ap (λ (l : List MuxElement). length l) e, length-append ys (y ∷ []))
+
+pub front_is : (xs ys : List MuxElement) (x y : MuxElement) → xs ++ x ∷ [] ≡ ys ++ y ∷ [] → xs ≡ ys
+front_is [] [] x y e = refl
+front_is [] (b ∷ ys) x y e = absurd (apart ys x b y e)
+front_is (a ∷ xs) [] x y e = absurd (apart xs y a x (sym e))
+front_is (a ∷ xs) (b ∷ ys) x y e =
+    let first : a ≡ b = cc e in
+    let behind : xs ++ x ∷ [] ≡ ys ++ y ∷ [] = cc e in
+    ap (λ (c : MuxElement). c ∷ xs) first ∙ ap (λ (l : List MuxElement). b ∷ l) (front_is xs ys x y behind)
+
+pub last_split : (xs : List MuxElement) → (xs ≡ []) ⊎ ((front : List MuxElement) × (x : MuxElement) × (xs ≡ front ++ x ∷ []))
+last_split [] = inl refl
+last_split (a ∷ xs) = elim (last_split xs) [ inl none ↦ inr ([], a, ap (λ (l : List MuxElement). a ∷ l) none) | inr k ↦ inr (a ∷ k.0, k.1, ap (λ (l : List MuxElement). a ∷ l) k.2) ]

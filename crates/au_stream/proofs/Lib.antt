@@ -5,6 +5,7 @@ pub mod Counting
 pub mod Scripts
 pub mod Ahead
 pub mod Steps
+pub mod Near
 pub mod Small
 pub mod FrameCounts
 pub mod Gathering

@@ -61,6 +61,13 @@ carries_push before text [] rest e body behind c fits is b = (body, behind, fits
 carries_push before text (first ∷ es) rest e body behind c fits is b =
     (c.0, c.1, c.2, c.3, c.4, carries_push (then_in_force before first.config) c.1 es rest e body behind c.5 fits is b)
 
+-- the bytes of elements, without what stands behind them
+pub carries_front : (before : Option MuxConfig) (text : List ℕ) (es : List MuxElement) (rest : List ℕ) → Carries before text es rest → (front : List ℕ) × (text ≡ front ++ rest) × Carries before front es []
+carries_front before text [] rest c = ([], c, refl)
+carries_front before text (e ∷ es) rest (body, behind, fits, is, own, c) =
+    let k = carries_front (then_in_force before e.config) behind es rest c in
+    (framed body ++ k.0, is ∙ (ap (λ (t : List ℕ). framed body ++ t) k.1 ∙ sym (append_assoc (framed body) k.0 rest)), (body, k.0, fits, refl, own, k.2))
+
 pub in_force-push : (before : Option MuxConfig) (es : List MuxElement) (e : MuxElement) → in_force_behind before (es ++ e ∷ []) ≡ then_in_force (in_force_behind before es) e.config
 in_force-push before [] e = refl
 in_force-push before (first ∷ es) e = in_force-push (then_in_force before first.config) es e

@@ -27,7 +27,7 @@ use Rattle.au_stream.specs.Taking.{Seen, Takes}
 use Rattle.au_stream.specs.Events.{IsEvent, Answers, GivenBy, Reads}
 use Rattle.au_stream.proofs.Ahead.{ahead_next}
 use Rattle.au_stream.proofs.Counting.{some_in_force, slots_fit}
-use Rattle.au_stream.proofs.FrameLists.{frames-push, last-push}
+use Rattle.au_stream.proofs.FrameLists.{frames-push, last-push, front_is}
 use Rattle.au_stream.proofs.Runs.{carries_more, carries_push, in_force-push}
 use Rattle.au_stream.proofs.Scripts.{script_end, script_truncated, script_lost, script_bad, script_large, script_open, frames_begin}
 
@@ -84,8 +84,12 @@ change_known before own (Some n) m opens last (au ∷ slots) changed is there e 
     let same : n ≡ m = cc in
     changes_first before own m last (record { mux = n; opens = opens; au = au }) changed there same e c
 
+-- the elements before the last have no more frames than were given
+abbrev pub AreNotMore : List MuxElement → List Frame → Type 0
+AreNotMore es given = (front : List MuxElement) (e : MuxElement) → es ≡ front ++ e ∷ [] → length (frames_from None front) ≤ length given
+
 -- an element was read
-pub took : (got : List ℕ) (given : List Frame) (n : ℕ) (r new : Reading) → Holds got given r → r.in_force ≡ option_map (λ f. f.mux) (last_of given) → r.pending ≡ [] → BeginsWithFrame n r.framer.held → TookElement n r new → Holds got given new × (0 < length new.pending)
+pub took : (got : List ℕ) (given : List Frame) (n : ℕ) (r new : Reading) → Holds got given r → r.in_force ≡ option_map (λ f. f.mux) (last_of given) → r.pending ≡ [] → BeginsWithFrame n r.framer.held → TookElement n r new → (h : Holds got given new) × (0 < length new.pending) × AreNotMore h.elements given
 took got given n r new s last none b t =
     let e = t.element in
     let body = take n (drop 3 r.framer.held) in
@@ -118,6 +122,7 @@ took got given n r new s last none b t =
         going = ap (λ (x : Reading). x.failed) t.held ∙ s.going;
       },
       omega (arith, ap (λ (x : List (List ℕ)). length x) pending_is, there.2),
+      λ front own is. omega (arith, ap (λ (x : List MuxElement). length (frames_from None x)) (front_is front s.elements own e (sym is)), ap (λ (x : List Frame). length x) old_frames),
     )
 
 -- ---- an access unit
@@ -130,8 +135,8 @@ pub record Given (got : List ℕ) (given : List Frame) (r new : Reading) (event 
   pub behind : List Frame
   pub all : frames_from None read.holds.elements ≡ given ++ frame ∷ behind
 
-pub gives : (got : List ℕ) (given : List Frame) (r new : Reading) (event : Event) → Holds got given r → length r.framer.held < 8192 → Gave r new event → Given got given r new event
-gives got given r new event h ahead g = go r.in_force refl
+pub gives : (got : List ℕ) (given : List Frame) (r new : Reading) (event : Event) → (h : Holds got given r) → length r.framer.held < 8192 → AreNotMore h.elements given → Gave r new event → Given got given r new event
+gives got given r new event h ahead few g = go r.in_force refl
   where
     none_left : (m : MuxConfig) (f : Frame) (slots : List (List ℕ)) → f.mux ≡ m → KnowsChange (Some f) (frames_under (Some m) false slots) false
     none_left m f [] is = tt
@@ -174,6 +179,7 @@ gives got given r new event h ahead g = go r.in_force refl
             };
             last = force_is ∙ sym (ap (λ (l : Option Frame). option_map (λ (x : Frame). x.mux) l) (last-push given f));
             ahead = omega (arith, ahead, ap (λ (x : Reading). length x.framer.held) g.left);
+            newest = λ front e is. omega (arith, few front e is, length-append given (f ∷ []));
           };
           behind = frames_under (Some m) false g.rest;
           all = all;
@@ -195,7 +201,7 @@ next_is got rest given r new event g =
 -- an access unit of the element that was read before
 pub reads_pending : (got : List ℕ) (given : List Frame) (r new : Reading) (at : Seen) (event : Event) → HasRead got given r → Gave r new event → Reads got given r new at at (Ok (Some event))
 reads_pending got given r new at event h g =
-    let p = gives got given r new event h.holds h.ahead g in
+    let p = gives got given r new event h.holds h.ahead (λ front e is. omega (arith, h.newest front e is)) g in
     record {
       more = [];
       from = prepend-none at.left;
@@ -217,7 +223,7 @@ reads_next got given r mid new framer before now n event h none t limit took_is 
     let held_is : framer.held ≡ r.framer.held ++ more = ap (λ (x : Framer). x.held) t.answered.0 in
     let behind : length (drop (3 + n) (r.framer.held ++ more)) < 8192 = ahead_next r.framer.held more n t.needed h.ahead (subst (λ (x : List ℕ). BeginsWithFrame n x) held_is t.answered.1) in
     let ahead : length mid.framer.held < 8192 = omega (arith, behind, ap (λ (x : Reading). length x.framer.held) took_is.held, ap (λ (x : List ℕ). length (drop (3 + n) x)) held_is) in
-    let p = gives (got ++ more) given mid new event k.0 ahead g in
+    let p = gives (got ++ more) given mid new event k.0 ahead k.2 g in
     record {
       more = more;
       from = t.from;
@@ -236,6 +242,7 @@ all_given got given r h none = h.frames ∙ ap (λ (x : List Frame). given ++ x)
 -- the end
 pub reads_end : (got : List ℕ) (given : List Frame) (r : Reading) (framer : Framer) (before now : Seen) → HasRead got given r → r.pending ≡ [] → Takes most_bytes r.framer framer before now (Ok None) → pushed framer ≤ most_bytes
     → Reads got given r (record r { framer = framer }) before now (Ok None)
+unfolding held_more
 reads_end got given r framer before now h none t limit =
     let more = t.got in
     let s = held_more got more given r framer h.holds t.answered.0 limit in
@@ -248,7 +255,7 @@ reads_end got given r framer before now h none t limit =
       ended = true;
       at_end = λ e. t.answered.2;
       answers = λ rest e. subst (λ (x : List ℕ). IsScript x given End) (sym (ap (λ (y : List ℕ). (got ++ more) ++ y) (e refl) ∙ append-nil (got ++ more))) end;
-      leaves = record { holds = s; last = h.last; ahead = omega (arith, ap (λ (x : List ℕ). length x) t.answered.1) };
+      leaves = record { holds = s; last = h.last; ahead = omega (arith, ap (λ (x : List ℕ). length x) t.answered.1); newest = h.newest };
     }
 
 -- a fault of the element

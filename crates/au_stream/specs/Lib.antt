@@ -4,6 +4,7 @@ pub mod Segments
 pub mod Script
 pub mod Taking
 pub mod Reading
+pub mod Ahead
 pub mod Giving
 pub mod Held
 pub mod Events

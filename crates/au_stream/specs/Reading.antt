@@ -51,3 +51,5 @@ pub record HasRead (got : List ℕ) (given : List Frame) (r : Reading) : Type 0 
   pub last : r.in_force ≡ option_map (λ f. f.mux) (last_of given)
   -- fewer bytes than one read may bring were got behind the elements that were read
   pub ahead : length r.framer.held < 8192
+  -- the last of the frames is one of the last of these elements
+  pub newest : (front : List MuxElement) (e : MuxElement) → holds.elements ≡ front ++ e ∷ [] → length (frames_from None front) < length given

@@ -13,6 +13,7 @@ ghost use Rattle.latm.specs.Faults.{is_memory};
 ghost use Rattle.latm.specs.MuxElement.{element};
 ghost use Rattle.latm.specs.Stream.{IsWellFormed, slots_from};
 ghost use Rattle.asc.specs.declared.asc_config.Asc.{Asc};
+ghost use Rattle.au_stream.specs.Ahead.{ReadsNear};
 ghost use Rattle.au_stream.specs.Canonical.{Handed, HasFrame, BeginsWith, bytes_of_handed, frames_of_handed};
 ghost use Rattle.au_stream.specs.Elements.{IsElement, Carries};
 ghost use Rattle.au_stream.specs.Frames.{Frame, frames_from};
@@ -65,4 +66,10 @@ pub fn written_streams_are_read_back()
 /// exactly these access units, in order and each under the AudioSpecificConfig that was given last, and the mark End.
 pub fn canonical_frames_are_read_back()
     ensures { (first : Asc) (handed : List Handed) → BeginsWith first handed → All HasFrame handed → length (bytes_of_handed handed) ≤ most_bytes → IsScript (bytes_of_handed handed) (frames_of_handed first handed) End }
+{}
+
+/// A reader that has just given a frame took fewer than 8192 bytes behind the AudioMuxElement with that frame, however the source
+/// cuts its bytes: nothing is read far ahead of what is done with it.
+pub fn frames_are_given_soon()
+    ensures { ReadsNear }
 {}
