@@ -1,5 +1,6 @@
 -- A command on a source, from frame to frame and to its end.
 use Rattle.std.proofs.Common.{◌≡◌, ℕ, ◌+◌, ◌*◌, ◌≤◌, true, List, [], ◌∷◌, ◌++◌, length, take, Option, Some, None, Result, Ok, Err, refl, sym, ap, subst, ◌∙◌, append_assoc, arith, inl, inr}
+use Rattle.std.specs.Prelude.{◌⊎◌}
 use Rattle.std.specs.Option.{option_map}
 use Rattle.std.proofs.lemmas.List.{append-nil, take_all}
 use Rattle.std.proofs.Math.Seq.{take-append-add}
@@ -24,6 +25,7 @@ use Rattle.au_stream.specs.declared.event.EventHead.{EventHead}
 use Rattle.au_stream.specs.Views.{next_event, after_next}
 use Rattle.au_stream.proofs.FrameLists.{last-push}
 use Rattle.au_stream.proofs.Scripts.{frames_of_script}
+use Rattle.au_stream.proofs.Near.{reads_near}
 use Rattle.au_stream.proofs.Steps.{read_frames}
 use Rattle.commands.specs.declared.frame_end.FrameEnd.{FrameEnd}
 use Rattle.commands.specs.declared.frame_end.FrameEnd.TheVariants as frames
@@ -31,11 +33,11 @@ use Rattle.commands.specs.declared.outcome.Outcome.{Outcome}
 use Rattle.commands.specs.declared.outcome.Outcome.TheVariants as is
 use Rattle.commands.specs.Commands.{Command, IsCommand, Takes, TakesAll, TakesEnd, units_over, work, most_units}
 use Rattle.commands.specs.OneFrame.{Handles, DidFrame, DidPart, CausedBy, HandlesEnd}
-use Rattle.commands.specs.Handing.{WrotePart}
-use Rattle.commands.specs.Ending.{Traces, WroteAll, WroteFront, WroteClosed, WroteClosedFront, Reaches, WroteOpened, TakesFirst, Passes, Ends, refusal_of_mark}
+use Rattle.commands.specs.Handing.{WrotePart, WroteLess}
+use Rattle.commands.specs.Ending.{Traces, WroteAll, WroteFront, WroteClosed, WroteClosedFront, WroteWithin, WroteOpening, Reaches, WroteOpened, TakesFirst, Passes, Ends, refusal_of_mark}
 use Rattle.commands.specs.Causes.{Counts, Caused}
 use Rattle.commands.specs.Doing.{GoesOn, DoesSource, IsRefusedBy, Becomes, BecomesOf, BecomesOfEnd, Handed, EndsHanding, DoesFrames}
-use Rattle.commands.proofs.Handing.{append-append}
+use Rattle.commands.proofs.Handing.{append-append, into_of}
 
 pub prepend-none : (known : Option (List ℕ)) → known ≡ prepend_known [] known
 prepend-none None = refl
@@ -187,19 +189,9 @@ closed_all c fs before w1 w2 fed0 fed1 closing w takes closes more = record {
   fed = w.fed;
 }
 
-closed_part : (c : Command) (fs : List Frame) (before w1 w2 : Option (List ℕ)) (fed0 fed1 : ℕ) (closing : List ℕ) → WroteAll c fs (traces before w1 fed0 fed1) → TakesEnd c fs → c.Closes fs closing → WrotePart w1 w2 closing → WroteClosedFront c fs (traces before w2 fed0 fed1)
+closed_part : (c : Command) (fs : List Frame) (before w1 w2 : Option (List ℕ)) (fed0 fed1 : ℕ) (closing : List ℕ) → WroteAll c fs (traces before w1 fed0 fed1) → TakesEnd c fs → c.Closes fs closing → WroteLess w1 w2 closing → WroteClosedFront c fs (traces before w2 fed0 fed1)
 closed_part c fs before w1 w2 fed0 fed1 closing w takes closes part =
-    let xs = c.output fs in
-    record {
-      takes = takes;
-      closing = closing;
-      closes = closes;
-      written = (
-        length xs + part.0,
-        part.1 ∙ ap (λ (x : Option (List ℕ)). append_known x (take part.0 closing)) w.written ∙ append-append before xs (take part.0 closing) ∙ ap (λ (x : List ℕ). append_known before x) (sym (take-append-add xs closing part.0)),
-      );
-      fed = w.fed;
-    }
+    record { takes = takes; closing = closing; closes = closes; written = into_of before w1 w2 (c.output fs) closing w.written part; fed = w.fed }
 
 all_first : (c : Command) (text : List ℕ) (fs : List Frame) → Passes c text fs End → TakesFirst c text fs
 all_first c text fs p = record { later = []; of_file = subst (λ (x : List Frame). HasFrames text x) (sym (append-nil fs)) (frames_of_script text fs End p.script); takes = p.takes }
@@ -259,7 +251,7 @@ done j H old mid left0 left1 left2 before w1 w2 r1 r2 f1 f2 answer outcome withi
         subst (λ (o : Outcome). Ends j text taken (traces before w2 old.fed mid.fed) o) (sym b) (s.given, passes, closed_all j s.given before w1 w2 old.fed mid.fed c.closing w c.takes c.closes c.written)
     by_answer text taken (Err (frames.Refused r)) passes c b = ends_end j text taken s.given r (traces before w2 old.fed mid.fed) outcome b passes c.0 (same_all j s.given before w1 w2 old.fed mid.fed mid.fed w c.1 refl)
     by_answer text taken (Err frames.WriteFault) passes c b =
-        subst (λ (o : Outcome). Ends j text taken (traces before w2 old.fed mid.fed) o) (sym b) (s.given, inl (inr (passes, closed_part j s.given before w1 w2 old.fed mid.fed c.closing w c.takes c.closes c.written)))
+        subst (λ (o : Outcome). Ends j text taken (traces before w2 old.fed mid.fed) o) (sym b) (s.given, inr (passes, closed_part j s.given before w1 w2 old.fed mid.fed c.closing w c.takes c.closes c.written))
     by_answer text taken (Err frames.CoreFault) passes c b = absurd c
     by_answer text taken (Err (frames.Memory x)) passes c b =
         subst (λ (o : Outcome). Ends j text taken (traces before w2 old.fed mid.fed) o) (sym b)
@@ -364,14 +356,17 @@ stopped j H K old mid now left0 left1 left2 before w1 w2 r1 r2 f1 f2 event mux e
     part_of : (rest : List ℕ) → DidPart j s.given n.frame mid now w1 w2 → TakesFirst j ((s.got ++ p.more) ++ rest) (s.given ++ n.frame ∷ []) × WroteFront j (s.given ++ n.frame ∷ []) (traces before w2 old.fed now.fed)
     part_of rest part = (first_more j (s.got ++ p.more) rest s.given n.frame r2 n.read s.takes part.takes, part_front j H old mid now left0 left1 before w1 w2 r1 s n.frame part)
 
+    stops : (rest : List ℕ) → WroteWithin j s.given n.frame (traces before w2 old.fed now.fed) ⊎ WroteOpening j s.given n.frame (traces before w2 old.fed now.fed) → Ends j ((s.got ++ p.more) ++ rest) (s.got ++ p.more) (traces before w2 old.fed now.fed) is.WriteFault
+    stops rest wrote = (s.given, inl (record { next = n.frame; reaches = reaches rest; wrote = wrote; near = reads_near (s.got ++ p.more) s.given n.frame r2 n.read }))
+
     by_end : (x : FrameEnd) (rest : List ℕ) → Handles j s.given n.frame mid now w1 w2 (Err x) → BecomesOf j.within x outcome → Ends j ((s.got ++ p.more) ++ rest) (s.got ++ p.more) (traces before w2 old.fed now.fed) outcome
     by_end (frames.Refused refusal) rest d b =
         ends_frame j ((s.got ++ p.more) ++ rest) (s.got ++ p.more) s.given n.frame refusal (traces before w2 old.fed now.fed) outcome b (reaches rest) d.refuses (record { written = behind (j.opening s.given n.frame) d.written; fed = d.fed ∙ w.fed })
     by_end frames.WriteFault rest d b =
         subst (λ (o : Outcome). Ends j ((s.got ++ p.more) ++ rest) (s.got ++ p.more) (traces before w2 old.fed now.fed) o) (sym b)
         (elim d [
-          | inl part ↦ (s.given ++ n.frame ∷ [], inl (inl (part_of rest part)))
-          | inr opening ↦ (s.given, inr (record { next = n.frame; reaches = reaches rest; written = front opening.written; fed = opening.fed ∙ w.fed }))
+          | inl part ↦ stops rest (inl (record { takes = part.takes; bytes = part.bytes; grows = part.grows; written = into_of before w1 w2 xs part.bytes w.written part.written; fed = omega (arith, part.fed, s.fed, work_more j s.given n.frame) }))
+          | inr opening ↦ stops rest (inr (record { written = into_of before w1 w2 xs (j.opening s.given n.frame) w.written opening.written; fed = opening.fed ∙ w.fed }))
         ])
     by_end frames.CoreFault rest d b =
         subst (λ (o : Outcome). Ends j ((s.got ++ p.more) ++ rest) (s.got ++ p.more) (traces before w2 old.fed now.fed) o) (sym b)

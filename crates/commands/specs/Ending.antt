@@ -1,5 +1,5 @@
 -- What a command on one file writes, and how it ends, by the bytes of the file.
-use Rattle.std.specs.Prelude.{◌≡◌, ℕ, ◌+◌, ◌<◌, ◌≤◌, ◌⊎◌, List, [], ◌∷◌, ◌++◌}
+use Rattle.std.specs.Prelude.{◌≡◌, ℕ, ◌+◌, ◌<◌, ◌≤◌, ◌⊎◌, List, [], ◌∷◌, ◌++◌, length}
 use Rattle.std.specs.declared.option.Option.{Option}
 use Rattle.std.specs.Prelude.{Some, None}
 use Rattle.std.specs.Io.KnownBytes.{append_known}
@@ -7,12 +7,13 @@ use Rattle.loas.specs.declared.fault.LoasFault.TheVariants as loas
 use Rattle.tool_text.specs.declared.refusal.Refusal.{Refusal}
 use Rattle.tool_text.specs.RefusalText.{refusal_text}
 use Rattle.tool_text.specs.Faults.{refusal_of_loas, refusal_of_mux}
+use Rattle.au_stream.specs.Ahead.{IsNearFrame}
 use Rattle.au_stream.specs.Frames.{Frame}
 use Rattle.au_stream.specs.Script.{Mark, End, SyncLost, BadElement, Truncated, TooLarge, HasFrames, IsScript, IsOpen}
 use Rattle.commands.specs.declared.outcome.Outcome.{Outcome}
 use Rattle.commands.specs.declared.outcome.Outcome.TheVariants as is
-use Rattle.commands.specs.Commands.{Command, TakesAll, TakesEnd, work}
-use Rattle.commands.specs.Handing.{WrotePart}
+use Rattle.commands.specs.Commands.{Command, Takes, TakesAll, TakesEnd, Grows, work}
+use Rattle.commands.specs.Handing.{WrotePart, WroteInto}
 
 -- what was written on out, and how many units the core was fed, before the command and behind it
 pub record Traces : Type 0 where
@@ -55,12 +56,12 @@ pub record WroteClosed (c : Command) (frames : List Frame) (t : Traces) : Type 0
   pub written : t.written_after ≡ append_known t.written_before (c.output frames ++ closing)
   pub fed : t.fed_after ≡ t.fed_before + work c frames
 
--- A front of these was written.
+-- The whole output of the frames was written, and a write failed within the rest.
 pub record WroteClosedFront (c : Command) (frames : List Frame) (t : Traces) : Type 0 where
   pub takes : TakesEnd c frames
   pub closing : List ℕ
   pub closes : c.Closes frames closing
-  pub written : WrotePart t.written_before t.written_after (c.output frames ++ closing)
+  pub written : WroteInto t.written_before t.written_after (c.output frames) closing
   pub fed : t.fed_after ≡ t.fed_before + work c frames
 
 -- the refusal that a mark is, if it is one
@@ -119,14 +120,28 @@ pub record Reaches (c : Command) (text : List ℕ) (frames : List Frame) (next :
   pub of_file : HasFrames text (frames ++ next ∷ later)
   pub takes : TakesAll c [] frames
 
--- Their whole output was written, and a front of what opens the next frame.
-pub record WroteOpening (c : Command) (text : List ℕ) (frames : List Frame) (t : Traces) : Type 0 where
-  pub next : Frame
-  pub reaches : Reaches c text frames next
-  pub written : WrotePart t.written_before t.written_after (c.output frames ++ c.opening frames next)
+-- A write failed within the bytes of the next frame, which the command takes and whose units were fed.
+pub record WroteWithin (c : Command) (frames : List Frame) (next : Frame) (t : Traces) : Type 0 where
+  pub takes : Takes c frames next
+  pub bytes : List ℕ
+  pub grows : Grows c frames next bytes
+  pub written : WroteInto t.written_before t.written_after (c.output frames) bytes
+  pub fed : t.fed_after ≡ t.fed_before + work c (frames ++ next ∷ [])
+
+-- A write failed within what opens the next frame.
+pub record WroteOpening (c : Command) (frames : List Frame) (next : Frame) (t : Traces) : Type 0 where
+  pub written : WroteInto t.written_before t.written_after (c.output frames) (c.opening frames next)
   pub fed : t.fed_after ≡ t.fed_before + work c frames
 
--- The same was written; of the units of the next frame some may have been fed.
+-- The whole output of these frames was written, and a write failed at the one behind them. Of the file fewer than 8192 bytes were taken
+-- behind the element with that frame.
+pub record StopsWriting (c : Command) (text taken : List ℕ) (frames : List Frame) (t : Traces) : Type 0 where
+  pub next : Frame
+  pub reaches : Reaches c text frames next
+  pub wrote : WroteWithin c frames next t ⊎ WroteOpening c frames next t
+  pub near : IsNearFrame taken (length frames)
+
+-- The whole output of these frames was written, and a front of what opens the next one; of its units some may have been fed.
 pub record WroteUpTo (c : Command) (text : List ℕ) (frames : List Frame) (t : Traces) : Type 0 where
   pub next : Frame
   pub reaches : Reaches c text frames next
@@ -139,7 +154,8 @@ Ends c text taken t is.Done = (frames : List Frame) × Passes c text frames End 
 Ends c text taken t (is.Refused words) = (frames : List Frame) × (r : Refusal) × IsRefused c text frames r t × (words ≡ refusal_text c.within r)
 -- the script of the bytes taken may go on
 Ends c text taken t is.ReadFault = (frames : List Frame) × (mark : Mark) × Passes c taken frames mark × IsOpen mark × WroteAll c frames t
-Ends c text taken t is.WriteFault = (frames : List Frame) × (WroteSome c text frames t ⊎ WroteOpening c text frames t)
+-- a write failed at a frame, or at the end of the file
+Ends c text taken t is.WriteFault = (frames : List Frame) × (StopsWriting c text taken frames t ⊎ (Passes c text frames End × WroteClosedFront c frames t))
 -- the core failed at the frame behind those that were written
 Ends c text taken t is.CoreFault = (frames : List Frame) × (failed : Frame) × TakesFirst c text (frames ++ failed ∷ []) × WroteBefore c frames failed t
 Ends c text taken t (is.Memory e) = (frames : List Frame) × (WroteSome c text frames t ⊎ WroteUpTo c text frames t)

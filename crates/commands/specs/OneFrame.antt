@@ -11,7 +11,7 @@ use Rattle.tool_text.specs.declared.refusal.Refusal.{Refusal}
 use Rattle.au_stream.specs.Frames.{Frame}
 use Rattle.commands.specs.declared.frame_end.FrameEnd.{FrameEnd}
 use Rattle.commands.specs.declared.frame_end.FrameEnd.TheVariants as ends
-use Rattle.commands.specs.Handing.{WrotePart}
+use Rattle.commands.specs.Handing.{WrotePart, WroteLess}
 use Rattle.commands.specs.Commands.{Command, Takes, Grows}
 
 abbrev pub from_core : CoreFault → FrameEnd
@@ -30,6 +30,14 @@ pub record DidFrame (c : Command) (before : List Frame) (f : Frame) (old new : M
   pub grows : Grows c before f bytes
   pub written : written_new ≡ append_known written_old bytes
 
+-- It was taken, and a write failed within its bytes.
+pub record DidLess (c : Command) (before : List Frame) (f : Frame) (old new : Meaning) (written_old written_new : Option (List ℕ)) : Type 0 where
+  pub takes : Takes c before f
+  pub fed : new.fed ≡ old.fed + c.units before f
+  pub bytes : List ℕ
+  pub grows : Grows c before f bytes
+  pub written : WroteLess written_old written_new bytes
+
 -- It was taken, and a part of its bytes was written.
 pub record DidPart (c : Command) (before : List Frame) (f : Frame) (old new : Meaning) (written_old written_new : Option (List ℕ)) : Type 0 where
   pub takes : Takes c before f
@@ -38,10 +46,10 @@ pub record DidPart (c : Command) (before : List Frame) (f : Frame) (old new : Me
   pub grows : Grows c before f bytes
   pub written : WrotePart written_old written_new bytes
 
--- A part of what opens the frame was written, and none of its units was fed.
+-- A write failed within what opens the frame, and none of its units was fed.
 pub record DidOpening (c : Command) (before : List Frame) (f : Frame) (old new : Meaning) (written_old written_new : Option (List ℕ)) : Type 0 where
   pub fed : new.fed ≡ old.fed
-  pub written : WrotePart written_old written_new (c.opening before f)
+  pub written : WroteLess written_old written_new (c.opening before f)
 
 -- A part of what opens the frame was written, and no more was fed than its units.
 pub record DidSome (c : Command) (before : List Frame) (f : Frame) (old new : Meaning) (written_old written_new : Option (List ℕ)) : Type 0 where
@@ -66,7 +74,7 @@ abbrev pub Handles : Command → List Frame → Frame → Meaning → Meaning �
 Handles c before f old new written_old written_new (Ok _) = DidFrame c before f old new written_old written_new
 Handles c before f old new written_old written_new (Err (ends.Refused refusal)) = DidRefuse c before f refusal old new written_old written_new
 Handles c before f old new written_old written_new (Err ends.WriteFault) =
-    DidPart c before f old new written_old written_new ⊎ DidOpening c before f old new written_old written_new
+    DidLess c before f old new written_old written_new ⊎ DidOpening c before f old new written_old written_new
 Handles c before f old new written_old written_new (Err ends.CoreFault) = FailedAt c before f old new written_old written_new
 Handles c before f old new written_old written_new (Err (ends.Memory e)) =
     DidPart c before f old new written_old written_new ⊎ DidSome c before f old new written_old written_new
@@ -86,12 +94,12 @@ pub record DidEnd (Refuses : Refusal → Type 0) (Writes : List ℕ → Type 0) 
   pub closes : Writes closing
   pub written : written_new ≡ append_known written_old closing
 
--- A part of that was written.
+-- A write failed within that.
 pub record DidEndPart (Refuses : Refusal → Type 0) (Writes : List ℕ → Type 0) (written_old written_new : Option (List ℕ)) : Type 0 where
   pub takes : (r : Refusal) → Refuses r → ⊥
   pub closing : List ℕ
   pub closes : Writes closing
-  pub written : WrotePart written_old written_new closing
+  pub written : WroteLess written_old written_new closing
 
 -- What a call did that refuses for these reasons, or writes such a text.
 abbrev pub HandlesEnd : (Refusal → Type 0) → (List ℕ → Type 0) → Option (List ℕ) → Option (List ℕ) → Result (Unit {0}) FrameEnd → Type 0
