@@ -6,3 +6,4 @@ pub mod WholeSteps
 pub mod Files
 pub mod FilesCalled
 pub mod Rans
+pub mod LastInput

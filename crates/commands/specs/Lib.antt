@@ -12,3 +12,4 @@ pub mod OnInputs
 pub mod OnNone
 pub mod Wholes
 pub mod Ran
+pub mod LastInput

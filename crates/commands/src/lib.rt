@@ -21,6 +21,7 @@ mod frames;
 mod give;
 mod input;
 mod inputs;
+pub mod laws;
 mod note;
 mod outcome;
 mod pieces;

@@ -24,7 +24,7 @@ use Rattle.au_stream.specs.Frames.{Frame, config_of}
 use Rattle.std.specs.declared.alloc.AllocError.{AllocError}
 use Rattle.commands.specs.declared.frame_end.FrameEnd.{FrameEnd}
 use Rattle.commands.specs.declared.frame_end.FrameEnd.TheVariants as ends
-use Rattle.commands.specs.Handing.{WrotePart}
+use Rattle.commands.specs.Handing.{WroteLess}
 use Rattle.commands.specs.Commands.{IsCommand}
 use Rattle.commands.specs.OneFrame.{Handles, DidFrame, HandlesEnd, DidEnd, DidEndPart, from_device}
 use Rattle.commands.proofs.Going.{append-none}
@@ -160,7 +160,7 @@ module _ (at : PieceAt) (frames : List Frame) (task : Plan) (st : PlanStands at 
   plan_closed p line w0 w1 is same written = record { takes = has_piece p is; closing = line; closes = tells p line is same; written = written }
 
   -- a front of the line was written
-  pub plan_unwritten : (p : Piece) (line : List ℕ) (w0 w1 : Option (List ℕ)) (fault : DeviceFault) → end task.renditions.run ≡ Ok p → line ≡ line_of task.renditions.place p task.lead → WrotePart w0 w1 line
+  pub plan_unwritten : (p : Piece) (line : List ℕ) (w0 w1 : Option (List ℕ)) (fault : DeviceFault) → end task.renditions.run ≡ Ok p → line ≡ line_of task.renditions.place p task.lead → WroteLess w0 w1 line
       → HandlesEnd (LacksPiece at frames) (TellsPiece at frames) w0 w1 (Err (from_device fault))
   plan_unwritten p line w0 w1 fault is same part = by_fault fault
     where

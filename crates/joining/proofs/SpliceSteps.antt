@@ -29,7 +29,8 @@ use Rattle.au_stream.specs.Canonical.{Handed, bytes_of_handed}
 use Rattle.std.specs.declared.alloc.AllocError.{AllocError}
 use Rattle.commands.specs.declared.frame_end.FrameEnd.{FrameEnd}
 use Rattle.commands.specs.declared.frame_end.FrameEnd.TheVariants as ends
-use Rattle.commands.specs.Handing.{WrotePart}
+use Rattle.commands.specs.Handing.{WroteLess}
+use Rattle.commands.proofs.Handing.{less_part}
 use Rattle.commands.specs.Commands.{Takes, Grows, IsCommand, ClosesSilently}
 use Rattle.commands.specs.OneFrame.{Handles, DidFrame, HandlesEnd, DidEnd, from_device}
 use Rattle.commands.proofs.Going.{append-none}
@@ -72,11 +73,11 @@ module _ (n : ℕ) (h : Handed) where
   hands_all w0 w1 bytes is short written = (short_one h short, written ∙ ap (append_known w0) (is ∙ sym (one_bytes h)))
 
   -- a front of them was
-  pub hands_part : (w0 w1 : Option (List ℕ)) (bytes : List ℕ) (fault : DeviceFault) → bytes ≡ canonical_bytes h.asc h.au → canonical_length h.asc h.au ≤ 8191 → WrotePart w0 w1 bytes → HandsOver n (h ∷ []) w0 w1 (Err (from_device fault))
+  pub hands_part : (w0 w1 : Option (List ℕ)) (bytes : List ℕ) (fault : DeviceFault) → bytes ≡ canonical_bytes h.asc h.au → canonical_length h.asc h.au ≤ 8191 → WroteLess w0 w1 bytes → HandsOver n (h ∷ []) w0 w1 (Err (from_device fault))
   hands_part w0 w1 bytes fault is short part = by_fault fault
     where
-      front : WrotePart w0 w1 (bytes_of_handed (h ∷ []))
-      front = subst (λ (x : List ℕ). WrotePart w0 w1 x) (is ∙ sym (one_bytes h)) part
+      front : WroteLess w0 w1 (bytes_of_handed (h ∷ []))
+      front = subst (λ (x : List ℕ). WroteLess w0 w1 x) (is ∙ sym (one_bytes h)) part
 
       by_fault : (x : DeviceFault) → HandsOver n (h ∷ []) w0 w1 (Err (from_device x))
       by_fault devices.Failed = (short_one h short, front)
@@ -126,7 +127,7 @@ module _ (d : Definitions) (at : PieceAt) (before : List Frame) (f : Frame) wher
       inl (record { takes = takes_frame keeps h.0; fed = omega arith; bytes = bytes_of_handed (handed_of (run_at at before) f); grows = splice_grows d at before f; written = h.1 })
   handed_handles n m w0 w1 (Err ends.CoreFault) keeps number h = absurd h
   handed_handles n m w0 w1 (Err (ends.Memory e)) keeps number (inl h) =
-      inl (record { takes = takes_frame keeps h.0; fed = omega arith; bytes = bytes_of_handed (handed_of (run_at at before) f); grows = splice_grows d at before f; written = h.1 })
+      inl (record { takes = takes_frame keeps h.0; fed = omega arith; bytes = bytes_of_handed (handed_of (run_at at before) f); grows = splice_grows d at before f; written = less_part w0 w1 (bytes_of_handed (handed_of (run_at at before) f)) h.1 })
   handed_handles n m w0 w1 (Err (ends.Memory e)) keeps number (inr same) = inr (record { fed = omega arith; written = (0, same ∙ append-none w0) })
 
   -- there was no memory for its access unit

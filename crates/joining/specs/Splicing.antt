@@ -21,7 +21,7 @@ use Rattle.commands.specs.declared.frame_end.FrameEnd.{FrameEnd}
 use Rattle.commands.specs.declared.frame_end.FrameEnd.TheVariants as ends
 use Rattle.commands.specs.Calling.{Effect}
 use Rattle.commands.specs.Commands.{Command, opens_silently, feeds_none, ClosesSilently}
-use Rattle.commands.specs.Handing.{WrotePart}
+use Rattle.commands.specs.Handing.{WroteLess}
 use Rattle.commands.specs.OnInputs.{several, on_inputs}
 use Rattle.playing.specs.Spliced.{coded}
 use Rattle.joining.specs.declared.splice_task.Splice.{Splice}
@@ -119,6 +119,6 @@ IsUnwritten n (writes.Memory e) stop = stop ≡ ends.Memory e
 abbrev pub HandsOver : ℕ → List Handed → Option (List ℕ) → Option (List ℕ) → Result (Unit {0}) FrameEnd → Type 0
 HandsOver n hs w0 w1 (Ok x) = (some_long hs ≡ false) × (w1 ≡ append_known w0 (bytes_of_handed hs))
 HandsOver n hs w0 w1 (Err (ends.Refused r)) = (some_long hs ≡ true) × (r ≡ at_frame n reasons.TooLong) × (w1 ≡ w0)
-HandsOver n hs w0 w1 (Err ends.WriteFault) = (some_long hs ≡ false) × WrotePart w0 w1 (bytes_of_handed hs)
+HandsOver n hs w0 w1 (Err ends.WriteFault) = (some_long hs ≡ false) × WroteLess w0 w1 (bytes_of_handed hs)
 HandsOver n hs w0 w1 (Err ends.CoreFault) = ⊥
-HandsOver n hs w0 w1 (Err (ends.Memory e)) = ((some_long hs ≡ false) × WrotePart w0 w1 (bytes_of_handed hs)) ⊎ (w1 ≡ w0)
+HandsOver n hs w0 w1 (Err (ends.Memory e)) = ((some_long hs ≡ false) × WroteLess w0 w1 (bytes_of_handed hs)) ⊎ (w1 ≡ w0)

@@ -25,12 +25,13 @@ use Rattle.au_stream.specs.Frames.{Frame, config_of}
 use Rattle.commands.specs.declared.frame_end.FrameEnd.{FrameEnd}
 use Rattle.commands.specs.declared.frame_end.FrameEnd.TheVariants as ends
 use Rattle.commands.specs.Commands.{Command, Takes, Grows}
-use Rattle.commands.specs.Handing.{WrotePart}
+use Rattle.commands.specs.Handing.{WrotePart, WroteLess}
+use Rattle.commands.proofs.Handing.{less_part}
 use Rattle.commands.specs.OneFrame.{CausedBy, Handles, DidFrame, DidPart, DidSome, from_device}
 use Rattle.commands.proofs.Going.{append-none}
 use Rattle.playing.specs.Playing.{play_shown}
 use Rattle.playing.specs.PlayFaults.{refusal_of_play, IsEndOf}
-use Rattle.playing.specs.PlayedFrame.{PlaysFrame, StopsPlaying, StopsWriting}
+use Rattle.playing.specs.PlayedFrame.{PlaysFrame, WroteUntil, StopsPlaying, StopsWriting}
 
 -- A command calls its player with the frame's configuration and access unit, where the player refuses by these rules. It takes what
 -- the player takes, and refuses by the player's rules; it writes nothing before that; and its units and its bytes are the player's.
@@ -63,9 +64,9 @@ fed_part c before f k m w0 w1 bytes written h is part = record {
 }
 
 -- a write failed
-pub fed_stopped : (c : Command) (before : List Frame) (f : Frame) (k m : Meaning) (w0 w1 : Option (List ℕ)) (bytes written : List ℕ) (fault : DeviceFault) → Fed c before f k m bytes → written ≡ bytes → WrotePart w0 w1 written
+pub fed_stopped : (c : Command) (before : List Frame) (f : Frame) (k m : Meaning) (w0 w1 : Option (List ℕ)) (bytes written : List ℕ) (fault : DeviceFault) → Fed c before f k m bytes → written ≡ bytes → WroteUntil fault w0 w1 written
     → Handles c before f k m w0 w1 (Err (from_device fault))
-fed_stopped c before f k m w0 w1 bytes written devices.Failed h is part = inl (fed_part c before f k m w0 w1 bytes written h is part)
+fed_stopped c before f k m w0 w1 bytes written devices.Failed h is part = inl (record { takes = h.takes; fed = h.fed; bytes = bytes; grows = h.grows; written = subst (λ (x : List ℕ). WroteLess w0 w1 x) is part })
 fed_stopped c before f k m w0 w1 bytes written (devices.Memory e) h is part = inl (fed_part c before f k m w0 w1 bytes written h is part)
 
 -- memory ran out before anything was written
@@ -195,8 +196,12 @@ module _ (R : PlayFault → Type 0) (d : Definitions) (config : UsacConfig) (au 
   played_anew h = subst (λ (x : List ℤ). IsPlayed R d config au p q k m x t) none h
 
   -- a write failed
-  pub stops_writing : (w0 w1 : Option (List ℕ)) (written : List ℕ) (fault : DeviceFault) → IsPlayed R d config au p q k m s t → written ≡ sample_bytes t → WrotePart w0 w1 written → StopsWriting R d config au p q k m t w0 w1 (from_device fault)
-  stops_writing w0 w1 written fault h is part = record { played = played_anew h; fault = fault; ends = refl; written = subst (λ (x : List ℕ). WrotePart w0 w1 x) is part }
+  pub stops_writing : (w0 w1 : Option (List ℕ)) (written : List ℕ) (fault : DeviceFault) → IsPlayed R d config au p q k m s t → written ≡ sample_bytes t → WroteLess w0 w1 written → StopsWriting R d config au p q k m t w0 w1 (from_device fault)
+  stops_writing w0 w1 written fault h is part = record { played = played_anew h; fault = fault; ends = refl; written = by_fault fault (subst (λ (x : List ℕ). WroteLess w0 w1 x) is part) }
+    where
+      by_fault : (x : DeviceFault) → WroteLess w0 w1 (sample_bytes t) → WroteUntil x w0 w1 (sample_bytes t)
+      by_fault devices.Failed less = less
+      by_fault (devices.Memory e) less = less_part w0 w1 (sample_bytes t) less
 
   -- memory ran out before anything was written
   pub stops_unwritten : (w : Option (List ℕ)) (e : AllocError) → IsPlayed R d config au p q k m s t → StopsWriting R d config au p q k m t w w (ends.Memory e)

@@ -6,12 +6,13 @@ use Rattle.core_iface.specs.Decoding.{Definitions}
 use Rattle.core_iface.specs.Answering.{Meaning}
 use Rattle.core_iface.specs.Samples.{sample_bytes}
 use Rattle.outside.specs.declared.fault.DeviceFault.{DeviceFault}
+use Rattle.outside.specs.declared.fault.DeviceFault.TheVariants as devices
 use Rattle.switch_player.specs.declared.fault.PlayFault.{PlayFault}
 use Rattle.switch_player.specs.PlayerValue.{PlayerValue}
 use Rattle.switch_player.specs.Rules.{Refuses, RefusesAt}
 use Rattle.switch_player.specs.Feeding.{Answered, IsPlayed}
 use Rattle.commands.specs.declared.frame_end.FrameEnd.{FrameEnd}
-use Rattle.commands.specs.Handing.{WrotePart}
+use Rattle.commands.specs.Handing.{WrotePart, WroteLess}
 use Rattle.commands.specs.OneFrame.{from_device}
 use Rattle.playing.specs.declared.frame_player.Entry.{Entry}
 use Rattle.playing.specs.declared.frame_player.Entry.TheVariants.{Next, Within}
@@ -22,12 +23,17 @@ abbrev pub PlayerRefuses : Entry → Definitions → Option UsacConfig → UsacC
 PlayerRefuses Next d last c au fault = Refuses d last c au fault
 PlayerRefuses Within d last c au fault = RefusesAt d c au fault
 
+-- A part of the bytes was written. Where a write failed, at least the last one was not.
+abbrev pub WroteUntil : DeviceFault → Option (List ℕ) → Option (List ℕ) → List ℕ → Type 0
+WroteUntil devices.Failed w0 w1 bytes = WroteLess w0 w1 bytes
+WroteUntil (devices.Memory e) w0 w1 bytes = WrotePart w0 w1 bytes
+
 -- It was played, and a write of its sample bytes ended so behind a part of them; the first of these may not have been tried.
 pub record StopsWriting (R : PlayFault → Type 0) (d : Definitions) (c : UsacConfig) (au : List ℕ) (p q : PlayerValue) (k m : Meaning) (t : List ℤ) (w0 w1 : Option (List ℕ)) (end : FrameEnd) : Type 0 where
   pub played : IsPlayed R d c au p q k m [] t
   pub fault : DeviceFault
   pub ends : end ≡ from_device fault
-  pub written : WrotePart w0 w1 (sample_bytes t)
+  pub written : WroteUntil fault w0 w1 (sample_bytes t)
 
 -- The player answered a fault, and nothing was written.
 pub record StopsPlaying (number : ℕ) (R : PlayFault → Type 0) (d : Definitions) (c : UsacConfig) (au : List ℕ) (p q : PlayerValue) (k m : Meaning) (t : List ℤ) (w0 w1 : Option (List ℕ)) (end : FrameEnd) : Type 0 where

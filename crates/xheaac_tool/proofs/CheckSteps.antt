@@ -30,7 +30,7 @@ use Rattle.xheaac_tool.specs.declared.check_task.Check.{Check}
 use Rattle.commands.specs.declared.frame_end.FrameEnd.{FrameEnd}
 use Rattle.commands.specs.declared.frame_end.FrameEnd.TheVariants as ends
 use Rattle.commands.specs.Commands.{RefusesNoEnd}
-use Rattle.commands.specs.Handing.{WrotePart}
+use Rattle.commands.specs.Handing.{WroteLess}
 use Rattle.xheaac_tool.specs.Reading.{ReadsUnit, IsJudgement}
 use Rattle.commands.specs.OneFrame.{Handles, DidFrame, DidPart, DidSome, DidRefuse, DidEnd, DidEndPart, HandlesEnd, from_device}
 use Rattle.xheaac_tool.specs.Checking.{ClosesCounted, CheckRefuses, TooShort, Uncarried, how_many, flag_of, is_independent, is_play_out, checking}
@@ -180,7 +180,7 @@ pub check_closed : (c : Check) (frames : List Frame) (w0 w1 : Option (List ℕ))
 check_closed c frames w0 w1 line bytes h is same written = record { takes = λ r never. never; closing = bytes; closes = closes_counted c frames bytes h (same ∙ is); written = written }
 
 -- a front of it was written
-pub check_stopped : (c : Check) (frames : List Frame) (w0 w1 : Option (List ℕ)) (line bytes : List ℕ) (fault : DeviceFault) → HoldsCounts c frames → line ≡ check_line c.frames c.configurations c.independent c.immediate → bytes ≡ line → WrotePart w0 w1 bytes
+pub check_stopped : (c : Check) (frames : List Frame) (w0 w1 : Option (List ℕ)) (line bytes : List ℕ) (fault : DeviceFault) → HoldsCounts c frames → line ≡ check_line c.frames c.configurations c.independent c.immediate → bytes ≡ line → WroteLess w0 w1 bytes
     → HandlesEnd (RefusesNoEnd frames) (ClosesCounted frames) w0 w1 (Err (from_device fault))
 check_stopped c frames w0 w1 line bytes fault h is same part = by_fault fault
   where

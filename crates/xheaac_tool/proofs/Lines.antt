@@ -2,10 +2,8 @@
 use Rattle.std.proofs.Common.{◌≡◌, ℕ, zero, suc, ◌+◌, ◌<◌, List, [], ◌∷◌, ◌++◌, length, take, drop, get_or, Bool, true, Option, None, Err, inl, inr, refl, sym, ap, subst, ◌∙◌, append_assoc, arith, Some}
 use Rattle.std.specs.Prelude.{if◌then◌else◌}
 use Rattle.std.specs.Io.KnownBytes.{append_known}
-use Rattle.std.proofs.lemmas.Bool.{cases_lt}
-use Rattle.std.proofs.lemmas.List.{take_all, take-append-le, take_at}
-use Rattle.std.proofs.Math.Seq.{take-append-add}
-use Rattle.commands.specs.Handing.{WrotePart}
+use Rattle.std.proofs.lemmas.List.{take_all}
+use Rattle.commands.specs.Handing.{WroteLess}
 use Rattle.latm.specs.declared.mux_config.MuxConfig.{MuxConfig}
 use Rattle.core_iface.specs.Answering.{Meaning}
 use Rattle.outside.specs.declared.fault.DeviceFault.{DeviceFault}
@@ -33,32 +31,13 @@ use Rattle.tool_text.specs.declared.refusal.Reason.TheVariants as reasons
 use Rattle.au_stream.specs.declared.event.Event.{Event}
 use Rattle.au_stream.specs.Events.{IsEvent}
 use Rattle.au_stream.specs.Frames.{Frame, config_of}
-use Rattle.commands.specs.OneFrame.{Handles, DidFrame, DidPart, from_device}
+use Rattle.commands.specs.OneFrame.{Handles, DidFrame, DidLess, from_device}
 use Rattle.xheaac_tool.specs.Reading.{IsTooShort, ReadsUnit}
 use Rattle.commands.specs.declared.frame_end.FrameEnd.{FrameEnd}
 use Rattle.commands.specs.declared.frame_end.FrameEnd.TheVariants as ends
 use Rattle.xheaac_tool.specs.Showing.{joined, mux_where, lines_where, payload_lines, preroll_where, frame_text, text_where, shown_of, opening_of, showing}
 use Rattle.xheaac_tool.proofs.Growing.{show_grows}
-use Rattle.commands.proofs.Handing.{append-append}
-
--- a front of a front
-front_of_front : (k : ℕ) (xs ys : List ℕ) → (j : ℕ) × (take k xs ≡ take j (xs ++ ys))
-front_of_front k xs ys =
-    elim (cases_lt k (length xs)) [
-      | inl lt ↦ (k, sym (take-append-le k xs ys (omega arith)))
-      | inr le ↦ (length xs, take_all k xs le ∙ sym (take_at xs ys (length xs) refl))
-    ]
-
--- a part of what stands behind bytes that were written
-pub part_behind : (before mid after : Option (List ℕ)) (a b : List ℕ) → mid ≡ append_known before a → WrotePart mid after b → WrotePart before after (a ++ b)
-part_behind before mid after a b e part =
-    (length a + part.0, part.1 ∙ ap (λ (x : Option (List ℕ)). append_known x (take part.0 b)) e ∙ append-append before a (take part.0 b) ∙ ap (λ (x : List ℕ). append_known before x) (sym (take-append-add a b part.0)))
-
--- a part of what stands in front
-pub part_in_front : (before after : Option (List ℕ)) (a b : List ℕ) → WrotePart before after a → WrotePart before after (a ++ b)
-part_in_front before after a b part =
-    let front = front_of_front part.0 a b in
-    (front.0, part.1 ∙ ap (λ (x : List ℕ). append_known before x) front.1)
+use Rattle.commands.proofs.Handing.{append-append, less_part, less_behind, less_in_front}
 
 -- bytes, and those behind them
 pub both_all : (w0 w1 w2 : Option (List ℕ)) (a b : List ℕ) → w1 ≡ append_known w0 a → w2 ≡ append_known w1 b → w2 ≡ append_known w0 (a ++ b)
@@ -73,11 +52,11 @@ joined_split (x ∷ lines) (suc i) line lt e =
 
 -- a part of one line behind the lines before it
 pub part_of_line : (before mid after : Option (List ℕ)) (lines : List (List ℕ)) (i : ℕ) (line bytes : List ℕ) → i < length lines → line ≡ get_or lines i line → bytes ≡ line
-    → mid ≡ append_known before (joined (take i lines)) → WrotePart mid after bytes → WrotePart before after (joined lines)
+    → mid ≡ append_known before (joined (take i lines)) → WroteLess mid after bytes → WroteLess before after (joined lines)
 part_of_line before mid after lines i line bytes lt e is_line so_far part =
     let rest = joined (drop (suc i) lines) in
-    subst (λ (x : List ℕ). WrotePart before after x) (sym (joined_split lines i line lt e))
-    (part_behind before mid after (joined (take i lines)) (line ++ rest) so_far (part_in_front mid after line rest (subst (λ (x : List ℕ). WrotePart mid after x) is_line part)))
+    subst (λ (x : List ℕ). WroteLess before after x) (sym (joined_split lines i line lt e))
+    (less_behind before mid after (joined (take i lines)) (line ++ rest) so_far (less_in_front mid after line rest (subst (λ (x : List ℕ). WroteLess mid after x) is_line part)))
 
 -- ---- a frame of `show`
 
@@ -85,8 +64,8 @@ part_of_line before mid after lines i line bytes lt e is_line so_far part =
 pub lines_all : (before after : Option (List ℕ)) (mux : MuxConfig) (lines : List (List ℕ)) → lines ≡ lines_of_mux mux → after ≡ append_known before (joined lines) → after ≡ append_known before (mux_where true mux)
 lines_all before after mux lines is written = written ∙ ap (λ (x : List (List ℕ)). append_known before (joined x)) is
 
-pub lines_part : (before after : Option (List ℕ)) (mux : MuxConfig) (lines : List (List ℕ)) → lines ≡ lines_of_mux mux → WrotePart before after (joined lines) → WrotePart before after (mux_where true mux)
-lines_part before after mux lines is part = subst (λ (x : List (List ℕ)). WrotePart before after (joined x)) is part
+pub lines_part : (before after : Option (List ℕ)) (mux : MuxConfig) (lines : List (List ℕ)) → lines ≡ lines_of_mux mux → WroteLess before after (joined lines) → WroteLess before after (mux_where true mux)
+lines_part before after mux lines is part = subst (λ (x : List (List ℕ)). WroteLess before after (joined x)) is part
 
 -- the lines of a payload that is a preroll, and of one that is none
 pub payload_good : (payload : List ℕ) (p : PreRoll) → IsWellFormed p → bits_of payload ≡ preroll_text p → payload_lines payload ≡ lines_of_preroll p
@@ -131,17 +110,17 @@ too_short before f config au number at r c a n bad is = record {
 }
 
 -- what opens it was not written to its end
-pub show_unopened : (before : List Frame) (f : Frame) (m : Meaning) (w0 w1 : Option (List ℕ)) (event : Event) (mux : MuxConfig) (fault : DeviceFault) → IsEvent before f event → mux ≡ f.mux → WrotePart w0 w1 (mux_where event.opens mux)
+pub show_unopened : (before : List Frame) (f : Frame) (m : Meaning) (w0 w1 : Option (List ℕ)) (event : Event) (mux : MuxConfig) (fault : DeviceFault) → IsEvent before f event → mux ≡ f.mux → WroteLess w0 w1 (mux_where event.opens mux)
     → Handles showing before f m m w0 w1 (Err (from_device fault))
-show_unopened before f m w0 w1 event mux devices.Failed e is part = inr (record { fed = refl; written = subst (λ (x : List ℕ). WrotePart w0 w1 x) (opening_is before f event mux e is) part })
-show_unopened before f m w0 w1 event mux (devices.Memory x) e is part = inr (record { fed = omega arith; written = subst (λ (x : List ℕ). WrotePart w0 w1 x) (opening_is before f event mux e is) part })
+show_unopened before f m w0 w1 event mux devices.Failed e is part = inr (record { fed = refl; written = subst (λ (x : List ℕ). WroteLess w0 w1 x) (opening_is before f event mux e is) part })
+show_unopened before f m w0 w1 event mux (devices.Memory x) e is part = inr (record { fed = omega arith; written = less_part w0 w1 (opening_of before f) (subst (λ (x : List ℕ). WroteLess w0 w1 x) (opening_is before f event mux e is) part) })
 
 -- a frame of which a part was written
 pub show_stopped : (before : List Frame) (f : Frame) (m : Meaning) (w0 w1 w2 : Option (List ℕ)) (event : Event) (mux : MuxConfig) (g : UsacFrame) (fault : DeviceFault) → IsEvent before f event → mux ≡ f.mux → IsFrame mux.asc.usac event.au g
-    → w1 ≡ append_known w0 (mux_where event.opens mux) → WrotePart w1 w2 (frame_text mux.asc.usac event.frame (length event.au) g) → Handles showing before f m m w0 w2 (Err (from_device fault))
+    → w1 ≡ append_known w0 (mux_where event.opens mux) → WroteLess w1 w2 (frame_text mux.asc.usac event.frame (length event.au) g) → Handles showing before f m m w0 w2 (Err (from_device fault))
 show_stopped before f m w0 w1 w2 event mux g fault e is frame opened part = by_fault fault
   where
-    did : DidPart showing before f m m w0 w2
+    did : DidLess showing before f m m w0 w2
     did =
         let config : mux.asc.usac ≡ config_of f = ap (λ (x : MuxConfig). x.asc.usac) is in
         let found = frame_of_is.found (config_of f) f.au g (frame_is f mux.asc.usac event.au g config e.au frame) in
@@ -151,12 +130,12 @@ show_stopped before f m w0 w1 w2 event mux g fault e is frame opened part = by_f
           fed = omega arith;
           bytes = shown_of (length before) f;
           grows = show_grows before f;
-          written = part_behind w0 w1 w2 (mux_where f.opens f.mux) (text_where (config_of f) (length before) (length f.au) (frame_of (config_of f) f.au)) (opened ∙ ap (λ (x : List ℕ). append_known w0 x) (opening_is before f event mux e is)) (subst (λ (x : List ℕ). WrotePart w1 w2 x) line part);
+          written = less_behind w0 w1 w2 (mux_where f.opens f.mux) (text_where (config_of f) (length before) (length f.au) (frame_of (config_of f) f.au)) (opened ∙ ap (λ (x : List ℕ). append_known w0 x) (opening_is before f event mux e is)) (subst (λ (x : List ℕ). WroteLess w1 w2 x) line part);
         }
 
     by_fault : (x : DeviceFault) → Handles showing before f m m w0 w2 (Err (from_device x))
     by_fault devices.Failed = inl did
-    by_fault (devices.Memory x) = inl did
+    by_fault (devices.Memory x) = inl (record { takes = did.takes; fed = did.fed; bytes = did.bytes; grows = did.grows; written = less_part w0 w2 did.bytes did.written })
 
 -- a frame that was shown
 pub show_did : (before : List Frame) (f : Frame) (m : Meaning) (w0 w1 w2 : Option (List ℕ)) (event : Event) (mux : MuxConfig) (g : UsacFrame) → IsEvent before f event → mux ≡ f.mux → IsFrame mux.asc.usac event.au g

@@ -8,7 +8,7 @@ ghost use Rattle.outside.specs.Answers.{has_failed, IsFailed};
 ghost use Rattle.usac_frame.specs.Frame.{FitsConfig};
 ghost use Rattle.usac_frame.specs.Units.{first_payload};
 ghost use Rattle.tool_text.specs.FrameText.{frame_line};
-ghost use Rattle.commands.specs.Handing.{WrotePart};
+ghost use Rattle.commands.specs.Handing.{WroteLess};
 ghost use Rattle.xheaac_tool.specs.Showing.{joined, mux_where, payload_lines, preroll_where, frame_text};
 
 use crate::unit_frame::read_unit_head;
@@ -31,7 +31,7 @@ pub struct Show;
 /// Writes lines, one after another. A fault may come behind a part of them.
 fn give_lines<K: Sink>(out: &mut K, lines: &[Octets]) -> Result<(), DeviceFault>
     ensures ok { OnOk result (K.written out.new ≡ append_known (K.written out.old) (joined lines.now)) }
-    ensures err { OnErr result (WrotePart (K.written out.old) (K.written out.new) (joined lines.now)) }
+    ensures err { OnErr result (WroteLess (K.written out.old) (K.written out.new) (joined lines.now)) }
     ensures cause { HasCause (has_failed result) (K.faults out.old) (K.faults out.new) }
     ensures calm { K.calm out.old → K.calm out.new }
     ensures calm_answers { K.calm out.old → IsFailed result → ⊥ }
@@ -51,7 +51,7 @@ fn give_mux<K: Sink>(
 ) -> Result<(), DeviceFault>
     requires { IsWellFormed mux.now }
     ensures ok { OnOk result (K.written out.new ≡ append_known (K.written out.old) (mux_where opens mux.now)) }
-    ensures err { OnErr result (WrotePart (K.written out.old) (K.written out.new) (mux_where opens mux.now)) }
+    ensures err { OnErr result (WroteLess (K.written out.old) (K.written out.new) (mux_where opens mux.now)) }
     ensures cause { HasCause (has_failed result) (K.faults out.old) (K.faults out.new) }
     ensures calm { K.calm out.old → K.calm out.new }
     ensures calm_answers { K.calm out.old → IsFailed result → ⊥ }
@@ -74,7 +74,7 @@ fn give_line<K: Sink>(
     out: &mut K,
 ) -> Result<(), DeviceFault>
     ensures ok { OnOk result (K.written out.new ≡ append_known (K.written out.old) (frame_line event.now.frame (length event.now.au) frame.now)) }
-    ensures err { OnErr result (WrotePart (K.written out.old) (K.written out.new) (frame_line event.now.frame (length event.now.au) frame.now)) }
+    ensures err { OnErr result (WroteLess (K.written out.old) (K.written out.new) (frame_line event.now.frame (length event.now.au) frame.now)) }
     ensures cause { HasCause (has_failed result) (K.faults out.old) (K.faults out.new) }
     ensures calm { K.calm out.old → K.calm out.new }
     ensures calm_answers { K.calm out.old → IsFailed result → ⊥ }
@@ -112,7 +112,7 @@ fn give_preroll<K: Sink>(
 ) -> Result<(), DeviceFault>
     requires { length (first_payload frame.now) ≤ 16777216 }
     ensures ok { OnOk result (K.written out.new ≡ append_known (K.written out.old) (preroll_where config.now frame.now)) }
-    ensures err { OnErr result (WrotePart (K.written out.old) (K.written out.new) (preroll_where config.now frame.now)) }
+    ensures err { OnErr result (WroteLess (K.written out.old) (K.written out.new) (preroll_where config.now frame.now)) }
     ensures cause { HasCause (has_failed result) (K.faults out.old) (K.faults out.new) }
     ensures calm { K.calm out.old → K.calm out.new }
     ensures calm_answers { K.calm out.old → IsFailed result → ⊥ }
@@ -138,7 +138,7 @@ fn give_frame<K: Sink>(
     requires well_formed { IsConfig config.now }
     requires fits { FitsConfig config.now frame.now }
     ensures ok { OnOk result (K.written out.new ≡ append_known (K.written out.old) (frame_text config.now event.now.frame (length event.now.au) frame.now)) }
-    ensures err { OnErr result (WrotePart (K.written out.old) (K.written out.new) (frame_text config.now event.now.frame (length event.now.au) frame.now)) }
+    ensures err { OnErr result (WroteLess (K.written out.old) (K.written out.new) (frame_text config.now event.now.frame (length event.now.au) frame.now)) }
     ensures cause { HasCause (has_failed result) (K.faults out.old) (K.faults out.new) }
     ensures calm { K.calm out.old → K.calm out.new }
     ensures calm_answers { K.calm out.old → IsFailed result → ⊥ }
