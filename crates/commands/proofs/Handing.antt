@@ -33,6 +33,11 @@ less_part before after bytes (count, lt, e) = (count, e)
 pub into_of : (before mid after : Option (List ℕ)) (first bytes : List ℕ) → mid ≡ append_known before first → WroteLess mid after bytes → WroteInto before after first bytes
 into_of before mid after first bytes e (count, lt, more) = (count, lt, more ∙ ap (λ (x : Option (List ℕ)). append_known x (take count bytes)) e ∙ append-append before first (take count bytes))
 
+-- a part of what stands behind bytes that were written
+pub part_behind : (before mid after : Option (List ℕ)) (a b : List ℕ) → mid ≡ append_known before a → WrotePart mid after b → WrotePart before after (a ++ b)
+part_behind before mid after a b e part =
+    (length a + part.0, part.1 ∙ ap (λ (x : Option (List ℕ)). append_known x (take part.0 b)) e ∙ append-append before a (take part.0 b) ∙ ap (λ (x : List ℕ). append_known before x) (sym (take-append-add a b part.0)))
+
 -- less of what stands behind bytes that were written
 pub less_behind : (before mid after : Option (List ℕ)) (a b : List ℕ) → mid ≡ append_known before a → WroteLess mid after b → WroteLess before after (a ++ b)
 less_behind before mid after a b e part = (

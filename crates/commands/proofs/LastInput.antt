@@ -1,15 +1,14 @@
 -- A command whose write failed stops in the last input that was begun.
-use Rattle.std.proofs.Common.{◌≡◌, ℕ, Bool, List, [], ◌∷◌, ◌++◌, length, refl, ap, arith, inl, inr}
+use Rattle.std.proofs.Common.{◌≡◌, ℕ, Bool, List, [], ◌∷◌, refl, ap, arith, inl, inr}
 use Rattle.au_stream.specs.Frames.{Frame}
 use Rattle.commands.specs.declared.outcome.Outcome.TheVariants as is
 use Rattle.commands.specs.Commands.{Command}
-use Rattle.commands.specs.Ending.{Traces}
-use Rattle.commands.specs.OnInputs.{Several, Stops, several, from_middle, DoesInputs}
-use Rattle.commands.specs.LastInput.{StopsInLast, StopsInTheLastInput}
+use Rattle.commands.specs.OnInputs.{from_middle}
+use Rattle.commands.specs.LastInput.{StopsInTheLastInput}
 
 pub stops_in_the_last : {At : Type 0} (command : At → Command) (then : At → List Frame → At) (plays : Bool) → StopsInTheLastInput command then plays
-stops_in_the_last command then plays from [] [] t d = elim d.1 [ | inl done ↦ absurd (let never : is.WriteFault ≡ is.Done = done.0 in cc) | inr none ↦ absurd none ]
-stops_in_the_last command then plays from (text ∷ texts) [] t d = elim d.1 [ | inl done ↦ absurd (let never : is.WriteFault ≡ is.Done = done.0 in cc) | inr none ↦ absurd none ]
+stops_in_the_last command then plays from [] [] t d = elim d.1 [ inl done ↦ absurd (let never : is.WriteFault ≡ is.Done = done.0 in cc) | inr none ↦ absurd none ]
+stops_in_the_last command then plays from (text ∷ texts) [] t d = elim d.1 [ inl done ↦ absurd (let never : is.WriteFault ≡ is.Done = done.0 in cc) | inr none ↦ absurd none ]
 stops_in_the_last command then plays from [] (front ∷ taken) t d = absurd d
 stops_in_the_last command then plays from (text ∷ texts) (front ∷ taken) t (inl s) = record {
   passed = [];

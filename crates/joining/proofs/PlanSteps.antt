@@ -1,5 +1,5 @@
 -- One frame of `plan`, and the end of a rendition.
-use Rattle.std.proofs.Common.{◌≡◌, ℕ, ◌+◌, ◌<◌, Bool, List, [], ◌∷◌, ◌++◌, length, map, Option, Some, None, Ok, Err, Result, true, false, refl, sym, ap, subst, ◌∙◌, arith, inl, inr}
+use Rattle.std.proofs.Common.{◌≡◌, ℕ, ◌+◌, ◌<◌, Bool, List, [], ◌∷◌, ◌++◌, length, map, Option, Some, None, Ok, Err, true, false, refl, sym, ap, ◌∙◌, arith, inl, inr}
 use Rattle.std.specs.Io.KnownBytes.{append_known}
 use Rattle.std.specs.Prelude.{nat_lt, if◌then◌else◌}
 use Rattle.std.proofs.lemmas.Bool.{ltb-true}
@@ -8,7 +8,6 @@ use Rattle.usac_cfg.specs.declared.usac_config.UsacConfig.{UsacConfig}
 use Rattle.timeline.specs.declared.piece.Piece.{Piece}
 use Rattle.plans.specs.Coded.{Coded}
 use Rattle.plans.specs.WholeStream.{stream_config}
-use Rattle.splicer.specs.declared.asked.Asked.{Asked}
 use Rattle.splicer.specs.declared.turn.Turn.{Turn}
 use Rattle.splicer.specs.declared.fault.SpliceFault.{SpliceFault}
 use Rattle.splicer.specs.declared.fault.SpliceFault.TheVariants as splices
@@ -25,7 +24,6 @@ use Rattle.std.specs.declared.alloc.AllocError.{AllocError}
 use Rattle.commands.specs.declared.frame_end.FrameEnd.{FrameEnd}
 use Rattle.commands.specs.declared.frame_end.FrameEnd.TheVariants as ends
 use Rattle.commands.specs.Handing.{WroteLess}
-use Rattle.commands.specs.Commands.{IsCommand}
 use Rattle.commands.specs.OneFrame.{Handles, DidFrame, HandlesEnd, DidEnd, DidEndPart, from_device}
 use Rattle.commands.proofs.Going.{append-none}
 use Rattle.playing.specs.Spliced.{coded}
@@ -33,7 +31,7 @@ use Rattle.joining.specs.declared.plan_task.Lead.{Lead}
 use Rattle.joining.specs.declared.plan_task.Plan.{Plan}
 use Rattle.joining.specs.declared.renditions.Renditions.{Renditions}
 use Rattle.joining.specs.Refusals.{refusal_of_splice, IsEndOf}
-use Rattle.joining.specs.Renditions.{PieceAt, asked_at, run_at, next_place, next_at, BreaksRule, LacksPiece, RenditionStands, StopsBy, ChecksFrame, GivesEnd}
+use Rattle.joining.specs.Renditions.{PieceAt, asked_at, run_at, next_place, next_at, BreaksRule, LacksPiece, RenditionStands, StopsBy, ChecksFrame}
 use Rattle.joining.specs.Planning.{turns, no_lead, lead_behind, lead_of, lead_at, line_of, TellsPiece, planning, PlanStands}
 
 -- ---- one frame more

@@ -1,5 +1,5 @@
 -- What is answered to `splice`, from what was promised of the call.
-use Rattle.std.proofs.Common.{◌≡◌, ℕ, ◌<◌, List, [], ◌∷◌, length, map, Option, Some, None, Result, Ok, Err, false, refl, sym, ap, subst, ◌∙◌, ◌⊎◌, inl, inr}
+use Rattle.std.proofs.Common.{◌≡◌, ℕ, ◌<◌, List, [], ◌∷◌, length, Option, Some, None, Result, Ok, Err, false, refl, sym, ap, subst, ◌∙◌, inl, inr}
 use Rattle.std.specs.Prelude.{◌≢◌}
 use Rattle.std.specs.Io.KnownBytes.{append_known}
 use Rattle.timeline.specs.declared.fault.PlanFault.{PlanFault}
@@ -29,7 +29,7 @@ use Rattle.playing.proofs.FileAnswers.{IsNoFault, none_rose, calm_well}
 use Rattle.joining.specs.Refusals.{refusal_of_plan, refusal_of_splice}
 use Rattle.joining.specs.Renditions.{PieceAt, next_at}
 use Rattle.joining.specs.Planning.{first_at, piece_in, where_ordered}
-use Rattle.joining.specs.Events.{FileScript, Event, Rule, AtMark, NotRead, order_event, AreScripts}
+use Rattle.joining.specs.Events.{FileScript, Rule, AtMark, NotRead, order_event, AreScripts}
 use Rattle.joining.specs.Answers.{NotesRefusal, TellsMark, IsDecided, AreCutShort, GoesWell, NoEventIsAPlan}
 use Rattle.joining.specs.Splicing.{refusal_of_halt, splicing, splices_files}
 use Rattle.joining.specs.SpliceEvents.{Stop, AtFrame, Behind, or_stop, stop_behind, unless, files_stop, files_handed, first_stop, splice_bytes}
@@ -37,7 +37,7 @@ use Rattle.joining.specs.SpliceAnswers.{TellsStop, TellsFirstStop, IsReadTo, Tel
 use Rattle.joining.proofs.Told.{IsOwn}
 use Rattle.joining.proofs.Answered.{first_comes, own_end, not_memory, settled, settled_read, decided_or_memory, held_long, all_held}
 use Rattle.joining.proofs.NoStop.{no_stop_is_planned}
-use Rattle.joining.proofs.SpliceTold.{SaysStop, StoppedBy, IsReason, walked, cut_short}
+use Rattle.joining.proofs.SpliceTold.{SaysStop, IsReason, walked, cut_short}
 
 -- ---- an outcome, as a stop
 

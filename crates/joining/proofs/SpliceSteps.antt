@@ -1,22 +1,18 @@
 -- One frame of `splice`, and the end of a rendition.
-use Rattle.std.proofs.Common.{◌≡◌, ℕ, ◌+◌, ◌<◌, ◌≤◌, Bool, List, [], ◌∷◌, ◌++◌, length, map, Option, Some, None, Ok, Err, Result, true, false, refl, sym, ap, subst, ◌∙◌, arith, append_assoc, inl, inr}
-use Rattle.std.specs.Prelude.{◌⊎◌, nat_lt, ◌||◌, if◌then◌else◌, OnOk}
+use Rattle.std.proofs.Common.{◌≡◌, ℕ, ◌<◌, ◌≤◌, Bool, List, [], ◌∷◌, ◌++◌, length, map, Option, Some, None, Ok, Err, Result, true, false, refl, sym, ap, subst, ◌∙◌, arith, append_assoc, inl, inr}
+use Rattle.std.specs.Prelude.{◌||◌, OnOk}
 use Rattle.std.specs.Io.KnownBytes.{append_known}
-use Rattle.std.specs.Option.{option_copied}
 use Rattle.std.proofs.lemmas.List.{append-nil}
 use Rattle.std.proofs.lemmas.Grind.{flat_map-append}
 use Rattle.std.proofs.lemmas.Bool.{lt-ltb, le-ltb}
-use Rattle.asc.specs.declared.asc_config.Asc.{Asc}
-use Rattle.latm.specs.Written.{canonical_bytes, canonical_length, WritesCanonical, is_memory}
+use Rattle.latm.specs.Written.{canonical_bytes, canonical_length, is_memory}
 use Rattle.latm.specs.declared.fault.WriteFault.{WriteFault}
 use Rattle.latm.specs.declared.fault.WriteFault.TheVariants as writes
 use Rattle.latm.specs.declared.mux_config.MuxConfig.{MuxConfig}
-use Rattle.usac_cfg.specs.declared.usac_config.UsacConfig.{UsacConfig}
-use Rattle.timeline.specs.declared.piece.Piece.{Piece}
 use Rattle.plans.specs.Coded.{Coded}
 use Rattle.splicer.specs.declared.turn.Turn.{Turn}
 use Rattle.splicer.specs.declared.fault.SpliceFault.{SpliceFault}
-use Rattle.splicer.specs.Runs.{RunValue, new_run, run_over, fault, turn, behind, end}
+use Rattle.splicer.specs.Runs.{RunValue, new_run, run_over, fault, turn, behind}
 use Rattle.core_iface.specs.Answering.{Meaning}
 use Rattle.core_iface.specs.Decoding.{Definitions}
 use Rattle.tool_text.specs.declared.refusal.Refusal.{Refusal}
@@ -31,15 +27,14 @@ use Rattle.commands.specs.declared.frame_end.FrameEnd.{FrameEnd}
 use Rattle.commands.specs.declared.frame_end.FrameEnd.TheVariants as ends
 use Rattle.commands.specs.Handing.{WroteLess}
 use Rattle.commands.proofs.Handing.{less_part}
-use Rattle.commands.specs.Commands.{Takes, Grows, IsCommand, ClosesSilently}
-use Rattle.commands.specs.OneFrame.{Handles, DidFrame, HandlesEnd, DidEnd, from_device}
+use Rattle.commands.specs.Commands.{Takes, Grows}
+use Rattle.commands.specs.OneFrame.{Handles, from_device}
 use Rattle.commands.proofs.Going.{append-none}
 use Rattle.playing.specs.Spliced.{coded}
 use Rattle.joining.specs.declared.renditions.Renditions.{Renditions}
-use Rattle.joining.specs.Refusals.{refusal_of_splice}
-use Rattle.joining.specs.Renditions.{PieceAt, asked_at, run_at, LacksPiece, RenditionStands, StopsBy, ChecksFrame, GivesEnd}
-use Rattle.joining.specs.Splicing.{handed_with, handed_of, handed_over, is_long, some_long, Halt, Breaks, Long, refusal_of_halt, halt_with, halt, Halts, spliced_bytes, splicing, SpliceStands, HandsOver, IsUnwritten}
-use Rattle.joining.proofs.PlanSteps.{there, turn_there, run_at_push}
+use Rattle.joining.specs.Renditions.{PieceAt, asked_at, run_at, RenditionStands, StopsBy}
+use Rattle.joining.specs.Splicing.{handed_with, handed_of, handed_over, some_long, Halt, Breaks, Long, halt_with, halt, Halts, splicing, SpliceStands, HandsOver, IsUnwritten}
+use Rattle.joining.proofs.PlanSteps.{there, turn_there}
 
 -- ---- one frame more
 

@@ -10,7 +10,7 @@ use Rattle.commands.specs.Calling.{AreTaken}
 use Rattle.commands.specs.Worlds.{World, traces}
 use Rattle.playing.specs.FileAnswers.{WroteBytes}
 use Rattle.playing.specs.Spliced.{CarriesSplice}
-use Rattle.joining.specs.Events.{FileScript, Event, AreScripts}
+use Rattle.joining.specs.Events.{FileScript, AreScripts}
 use Rattle.joining.specs.Answers.{ArePlanned, NotesRefusal, TellsEvent, IsDecided, AreCutShort, IsReadOn, GoesWell}
 use Rattle.joining.specs.Splicing.{refusal_of_halt}
 use Rattle.joining.specs.SpliceEvents.{Stop, AtFrame, Behind, first_stop, splice_bytes}

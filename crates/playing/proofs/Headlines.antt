@@ -8,7 +8,6 @@ use Rattle.plans.specs.SoundPlan.{IsSoundPlan}
 use Rattle.core_iface.specs.Decoding.{Definitions}
 use Rattle.au_stream.specs.Frames.{Frame}
 use Rattle.au_stream.specs.Script.{End}
-use Rattle.au_stream.proofs.Marks.{one_script}
 use Rattle.commands.specs.Ending.{Traces, Passes}
 use Rattle.commands.specs.Ran.{Notes}
 use Rattle.playing.specs.Playing.{playing, output}

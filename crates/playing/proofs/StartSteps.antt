@@ -12,16 +12,14 @@ use Rattle.core_iface.specs.Samples.{sample_bytes}
 use Rattle.switch_player.specs.declared.fault.PlayFault.{PlayFault}
 use Rattle.switch_player.specs.PlayerValue.{PlayerValue}
 use Rattle.switch_player.specs.Playing.{played_block, before_it}
-use Rattle.switch_player.specs.Rules.{TakesBy}
 use Rattle.switch_player.specs.Feeding.{IsPlayed}
 use Rattle.tool_text.specs.declared.refusal.Refusal.{Refusal}
 use Rattle.au_stream.specs.Frames.{Frame, config_of}
-use Rattle.commands.specs.Commands.{IsCommand, Takes, Grows}
+use Rattle.commands.specs.Commands.{IsCommand, Takes}
 use Rattle.commands.specs.OneFrame.{DidFrame}
 use Rattle.commands.proofs.Going.{append-none}
 use Rattle.playing.specs.declared.frame_player.Entry.{Entry}
 use Rattle.playing.specs.declared.frame_player.Entry.TheVariants.{Next, Within}
-use Rattle.playing.specs.PlayFaults.{refusal_of_play}
 use Rattle.playing.specs.PlayedFrame.{PlayerRefuses}
 use Rattle.playing.specs.Playing.{play_shown, play_units, last_config, output}
 use Rattle.playing.specs.Standing.{PlayerStands}

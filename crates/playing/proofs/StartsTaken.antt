@@ -1,5 +1,5 @@
 -- A file that carries a whole stream is taken by `start` at a sound start, and gives the stream's own blocks.
-use Rattle.std.proofs.Common.{◌≡◌, ℕ, zero, suc, ◌+◌, ◌<◌, ◌≤◌, Bool, true, false, List, [], ◌∷◌, ◌++◌, length, map, drop, Option, Some, None, ℤ, refl, ap, sym, subst, ◌∙◌, arith, ◌⊎◌, inl, inr}
+use Rattle.std.proofs.Common.{◌≡◌, ℕ, zero, suc, ◌+◌, ◌<◌, ◌≤◌, Bool, true, false, List, [], ◌∷◌, ◌++◌, length, map, drop, Option, Some, None, ℤ, refl, ap, sym, subst, ◌∙◌, arith, inl, inr}
 use Rattle.std.specs.Prelude.{nat_lt, ◌&&◌, ◌==◌, if◌then◌else◌, slice_range}
 use Rattle.std.specs.List.{drop-map}
 use Rattle.std.proofs.lemmas.Bool.Decides.{nat_tests}
@@ -7,8 +7,7 @@ use Rattle.std.proofs.lemmas.List.{append-nil, length-append, length-map, drop_a
 use Rattle.std.proofs.lemmas.List.Folds.{drop_split}
 use Rattle.usac_cfg.specs.declared.usac_config.UsacConfig.{UsacConfig}
 use Rattle.plans.specs.Coded.{Coded, coded_shown}
-use Rattle.plans.specs.Parts.{Part, IsPart, part_frames, spliced}
-use Rattle.plans.specs.SoundPlan.{BeginsWarm, IsSoundPlan}
+use Rattle.plans.specs.Parts.{Part, part_frames}
 use Rattle.core_iface.specs.Decoding.{Definitions, samples_of}
 use Rattle.core_iface.specs.Samples.{sample_bytes}
 use Rattle.switch_player.specs.Laws.{SplicesConverge, RefusesNoSplice, StartsSoundly}
@@ -16,15 +15,14 @@ use Rattle.switch_player.specs.Rules.{TakesBy}
 use Rattle.switch_player.specs.Splices.{TakesFrames, TakesFramesAt}
 use Rattle.switch_player.specs.Streams.{alone}
 use Rattle.au_stream.specs.Frames.{Frame, config_of}
-use Rattle.au_stream.specs.Script.{End, IsScript}
 use Rattle.commands.specs.Commands.{Takes, TakesAll}
 use Rattle.playing.specs.declared.frame_player.Entry.{Entry}
 use Rattle.playing.specs.declared.frame_player.Entry.TheVariants.{Next, Within}
 use Rattle.playing.specs.PlayedFrame.{PlayerRefuses}
-use Rattle.playing.specs.Playing.{last_config, output}
-use Rattle.playing.specs.Starting.{is_skipped, entry_at, RefusesUnless, starting}
-use Rattle.playing.specs.Spliced.{coded, plan_bytes}
-use Rattle.playing.specs.SoundStarts.{part_from, IsSoundStart, bytes_from, CarriesStream, TakesStart, TakesSoundStarts}
+use Rattle.playing.specs.Playing.{last_config}
+use Rattle.playing.specs.Starting.{entry_at, RefusesUnless, starting}
+use Rattle.playing.specs.Spliced.{coded}
+use Rattle.playing.specs.SoundStarts.{part_from, IsSoundStart, TakesSoundStarts}
 use Rattle.playing.proofs.Growing.{last_config-push}
 use Rattle.playing.proofs.StartSteps.{not_skipped, skipped_takes}
 use Rattle.playing.proofs.Taking.{splice_bytes}

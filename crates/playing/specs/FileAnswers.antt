@@ -1,6 +1,5 @@
 -- What is answered to a command on one file that writes nothing at the end of it, where no device and no core fails.
 use Rattle.std.specs.Prelude.{◌≡◌, ℕ, List, ◌⊎◌}
-use Rattle.std.specs.declared.option.Option.{Option}
 use Rattle.std.specs.Io.KnownBytes.{append_known}
 use Rattle.causes.specs.Counts.{Rose}
 use Rattle.tool_text.specs.declared.refusal.Refusal.{Refusal}

@@ -1,12 +1,13 @@
 -- Lemmas on lines that are written one after another.
-use Rattle.std.proofs.Common.{◌≡◌, ℕ, zero, suc, ◌+◌, ◌<◌, List, [], ◌∷◌, ◌++◌, length, take, drop, get_or, Bool, true, Option, None, Err, inl, inr, refl, sym, ap, subst, ◌∙◌, append_assoc, arith, Some}
-use Rattle.std.specs.Prelude.{if◌then◌else◌}
+use Rattle.std.proofs.Common.{◌≡◌, ℕ, zero, suc, ◌<◌, List, [], ◌∷◌, ◌++◌, length, take, drop, get_or, Bool, true, false, Option, None, Result, Ok, Err, inl, inr, refl, sym, ap, subst, ◌∙◌, append_assoc, arith, Some}
+use Rattle.std.specs.Prelude.{if◌then◌else◌, OnErr}
 use Rattle.std.specs.Io.KnownBytes.{append_known}
 use Rattle.std.proofs.lemmas.List.{take_all}
-use Rattle.commands.specs.Handing.{WroteLess}
+use Rattle.commands.specs.Handing.{WrotePart, WroteLess}
 use Rattle.latm.specs.declared.mux_config.MuxConfig.{MuxConfig}
 use Rattle.core_iface.specs.Answering.{Meaning}
 use Rattle.outside.specs.declared.fault.DeviceFault.{DeviceFault}
+use Rattle.outside.specs.Answers.{IsFailed}
 use Rattle.outside.specs.declared.fault.DeviceFault.TheVariants as devices
 use Rattle.tool_text.specs.MuxText.{lines_of_mux}
 use Rattle.layout.specs.Text.{bits_of}
@@ -31,13 +32,18 @@ use Rattle.tool_text.specs.declared.refusal.Reason.TheVariants as reasons
 use Rattle.au_stream.specs.declared.event.Event.{Event}
 use Rattle.au_stream.specs.Events.{IsEvent}
 use Rattle.au_stream.specs.Frames.{Frame, config_of}
-use Rattle.commands.specs.OneFrame.{Handles, DidFrame, DidLess, from_device}
+use Rattle.commands.specs.OneFrame.{Handles, DidFrame, from_device}
 use Rattle.xheaac_tool.specs.Reading.{IsTooShort, ReadsUnit}
 use Rattle.commands.specs.declared.frame_end.FrameEnd.{FrameEnd}
 use Rattle.commands.specs.declared.frame_end.FrameEnd.TheVariants as ends
 use Rattle.xheaac_tool.specs.Showing.{joined, mux_where, lines_where, payload_lines, preroll_where, frame_text, text_where, shown_of, opening_of, showing}
 use Rattle.xheaac_tool.proofs.Growing.{show_grows}
-use Rattle.commands.proofs.Handing.{append-append, less_part, less_behind, less_in_front}
+use Rattle.commands.proofs.Handing.{append-append, part_behind, less_part, less_behind, less_in_front}
+
+-- what holds of an error holds where a write failed
+pub on_failed : (r : Result (Unit {0}) DeviceFault) (P : Type 0) → OnErr r P → IsFailed r → P
+on_failed (Ok x) P h failed = absurd (let never : false ≡ true = failed in cc)
+on_failed (Err x) P h failed = h
 
 -- bytes, and those behind them
 pub both_all : (w0 w1 w2 : Option (List ℕ)) (a b : List ℕ) → w1 ≡ append_known w0 a → w2 ≡ append_known w1 b → w2 ≡ append_known w0 (a ++ b)
@@ -117,25 +123,24 @@ show_unopened before f m w0 w1 event mux (devices.Memory x) e is part = inr (rec
 
 -- a frame of which a part was written
 pub show_stopped : (before : List Frame) (f : Frame) (m : Meaning) (w0 w1 w2 : Option (List ℕ)) (event : Event) (mux : MuxConfig) (g : UsacFrame) (fault : DeviceFault) → IsEvent before f event → mux ≡ f.mux → IsFrame mux.asc.usac event.au g
-    → w1 ≡ append_known w0 (mux_where event.opens mux) → WroteLess w1 w2 (frame_text mux.asc.usac event.frame (length event.au) g) → Handles showing before f m m w0 w2 (Err (from_device fault))
-show_stopped before f m w0 w1 w2 event mux g fault e is frame opened part = by_fault fault
+    → w1 ≡ append_known w0 (mux_where event.opens mux) → WrotePart w1 w2 (frame_text mux.asc.usac event.frame (length event.au) g)
+    → (let r : Result (Unit {0}) DeviceFault = Err fault in IsFailed r → WroteLess w1 w2 (frame_text mux.asc.usac event.frame (length event.au) g)) → Handles showing before f m m w0 w2 (Err (from_device fault))
+show_stopped before f m w0 w1 w2 event mux g fault e is frame opened part less = by_fault fault less
   where
-    did : DidLess showing before f m m w0 w2
-    did =
-        let config : mux.asc.usac ≡ config_of f = ap (λ (x : MuxConfig). x.asc.usac) is in
-        let found = frame_of_is.found (config_of f) f.au g (frame_is f mux.asc.usac event.au g config e.au frame) in
-        let line = text_is (length before) f (length event.au) mux.asc.usac event.frame g config e.number (ap (λ (x : List ℕ). length x) e.au) found in
-        record {
-          takes = not_short before f mux.asc.usac event.au g config e.au frame;
-          fed = omega arith;
-          bytes = shown_of (length before) f;
-          grows = show_grows before f;
-          written = less_behind w0 w1 w2 (mux_where f.opens f.mux) (text_where (config_of f) (length before) (length f.au) (frame_of (config_of f) f.au)) (opened ∙ ap (λ (x : List ℕ). append_known w0 x) (opening_is before f event mux e is)) (subst (λ (x : List ℕ). WroteLess w1 w2 x) line part);
-        }
+    config : mux.asc.usac ≡ config_of f
+    config = ap (λ (x : MuxConfig). x.asc.usac) is
 
-    by_fault : (x : DeviceFault) → Handles showing before f m m w0 w2 (Err (from_device x))
-    by_fault devices.Failed = inl did
-    by_fault (devices.Memory x) = inl (record { takes = did.takes; fed = did.fed; bytes = did.bytes; grows = did.grows; written = less_part w0 w2 did.bytes did.written })
+    line : frame_text mux.asc.usac event.frame (length event.au) g ≡ text_where (config_of f) (length before) (length f.au) (frame_of (config_of f) f.au)
+    line = text_is (length before) f (length event.au) mux.asc.usac event.frame g config e.number (ap (λ (x : List ℕ). length x) e.au) (frame_of_is.found (config_of f) f.au g (frame_is f mux.asc.usac event.au g config e.au frame))
+
+    first : w1 ≡ append_known w0 (mux_where f.opens f.mux)
+    first = opened ∙ ap (λ (x : List ℕ). append_known w0 x) (opening_is before f event mux e is)
+
+    by_fault : (x : DeviceFault) → (let r : Result (Unit {0}) DeviceFault = Err x in IsFailed r → WroteLess w1 w2 (frame_text mux.asc.usac event.frame (length event.au) g)) → Handles showing before f m m w0 w2 (Err (from_device x))
+    by_fault devices.Failed h =
+        inl (record { takes = not_short before f mux.asc.usac event.au g config e.au frame; fed = omega arith; bytes = shown_of (length before) f; grows = show_grows before f; written = less_behind w0 w1 w2 _ _ first (subst (λ (x : List ℕ). WroteLess w1 w2 x) line (h refl)) })
+    by_fault (devices.Memory x) h =
+        inl (record { takes = not_short before f mux.asc.usac event.au g config e.au frame; fed = omega arith; bytes = shown_of (length before) f; grows = show_grows before f; written = part_behind w0 w1 w2 _ _ first (subst (λ (x : List ℕ). WrotePart w1 w2 x) line part) })
 
 -- a frame that was shown
 pub show_did : (before : List Frame) (f : Frame) (m : Meaning) (w0 w1 w2 : Option (List ℕ)) (event : Event) (mux : MuxConfig) (g : UsacFrame) → IsEvent before f event → mux ≡ f.mux → IsFrame mux.asc.usac event.au g

@@ -8,7 +8,7 @@ ghost use Rattle.outside.specs.Answers.{has_failed, IsFailed};
 ghost use Rattle.usac_frame.specs.Frame.{FitsConfig};
 ghost use Rattle.usac_frame.specs.Units.{first_payload};
 ghost use Rattle.tool_text.specs.FrameText.{frame_line};
-ghost use Rattle.commands.specs.Handing.{WroteLess};
+ghost use Rattle.commands.specs.Handing.{WrotePart, WroteLess};
 ghost use Rattle.xheaac_tool.specs.Showing.{joined, mux_where, payload_lines, preroll_where, frame_text};
 
 use crate::unit_frame::read_unit_head;
@@ -112,7 +112,8 @@ fn give_preroll<K: Sink>(
 ) -> Result<(), DeviceFault>
     requires { length (first_payload frame.now) ≤ 16777216 }
     ensures ok { OnOk result (K.written out.new ≡ append_known (K.written out.old) (preroll_where config.now frame.now)) }
-    ensures err { OnErr result (WroteLess (K.written out.old) (K.written out.new) (preroll_where config.now frame.now)) }
+    ensures err { OnErr result (WrotePart (K.written out.old) (K.written out.new) (preroll_where config.now frame.now)) }
+    ensures failed { IsFailed result → WroteLess (K.written out.old) (K.written out.new) (preroll_where config.now frame.now) }
     ensures cause { HasCause (has_failed result) (K.faults out.old) (K.faults out.new) }
     ensures calm { K.calm out.old → K.calm out.new }
     ensures calm_answers { K.calm out.old → IsFailed result → ⊥ }
@@ -138,7 +139,8 @@ fn give_frame<K: Sink>(
     requires well_formed { IsConfig config.now }
     requires fits { FitsConfig config.now frame.now }
     ensures ok { OnOk result (K.written out.new ≡ append_known (K.written out.old) (frame_text config.now event.now.frame (length event.now.au) frame.now)) }
-    ensures err { OnErr result (WroteLess (K.written out.old) (K.written out.new) (frame_text config.now event.now.frame (length event.now.au) frame.now)) }
+    ensures err { OnErr result (WrotePart (K.written out.old) (K.written out.new) (frame_text config.now event.now.frame (length event.now.au) frame.now)) }
+    ensures failed { IsFailed result → WroteLess (K.written out.old) (K.written out.new) (frame_text config.now event.now.frame (length event.now.au) frame.now) }
     ensures cause { HasCause (has_failed result) (K.faults out.old) (K.faults out.new) }
     ensures calm { K.calm out.old → K.calm out.new }
     ensures calm_answers { K.calm out.old → IsFailed result → ⊥ }

@@ -19,7 +19,7 @@ pub returns-in_err-give_frame-clause-handles : goal.returns-in_err-give_frame-cl
 returns-in_err-give_frame-clause-handles g c = λ at before f event mux stands.
     let p = err_from_is_err_and c.from_residual-in_err-give_frame.result c.from_residual-in_err-give_frame.ensures.1 in
     let reads = c.in_ok-head.ensures.reads in
-    rw (p.1, p.2) (show_stopped before f _ _ _ _ c.args.event.now c.args.mux.now (with_rest c.in_ok-head.head reads.0) c.in_err-give_frame.field-0.0 event mux reads.1 (rw c.opens.ensures at c.in_ok-give_mux.ensures.ok) c.in_err-give_frame.ensures.err)
+    rw (p.1, p.2) (show_stopped before f _ _ _ _ c.args.event.now c.args.mux.now (with_rest c.in_ok-head.head reads.0) c.in_err-give_frame.field-0.0 event mux reads.1 (rw c.opens.ensures at c.in_ok-give_mux.ensures.ok) c.in_err-give_frame.ensures.err c.in_err-give_frame.ensures.failed)
 
 pub returns-clause-handles : goal.returns-clause-handles
 returns-clause-handles g c = λ at before f event mux stands.
