@@ -1,0 +1,5 @@
+pub mod GivenFrames
+pub mod Taken
+pub mod SwitchSteps
+pub mod NextPiece
+pub mod PlayedPlan
