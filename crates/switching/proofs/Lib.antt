@@ -3,3 +3,4 @@ pub mod Taken
 pub mod SwitchSteps
 pub mod NextPiece
 pub mod PlayedPlan
+pub mod Calls

@@ -1,16 +1,19 @@
 -- What `switch` writes for the frames of renditions, and which of them it refuses.
 use Rattle.std.specs.Prelude.{◌≡◌, ℕ, Bool, true, List, [], ◌∷◌, ◌++◌, Some, if◌then◌else◌}
+use Rattle.timeline.specs.Order.{order_result}
 use Rattle.splicer.specs.Pieces.{is_given}
 use Rattle.splicer.specs.Runs.{RunValue, new_run, turn, behind}
 use Rattle.core_iface.specs.Decoding.{Definitions}
 use Rattle.tool_text.specs.declared.refusal.Within.TheVariants as inputs
 use Rattle.au_stream.specs.Frames.{Frame}
+use Rattle.commands.specs.Calling.{Effect}
 use Rattle.commands.specs.Commands.{Command, opens_silently, ClosesSilently}
+use Rattle.commands.specs.OnInputs.{several, on_inputs}
 use Rattle.playing.specs.Playing.{output_on, play_units, IsServed}
 use Rattle.playing.specs.Spliced.{coded}
 use Rattle.joining.specs.Renditions.{PieceAt, asked_at, run_at, BreaksRule, LacksPiece}
 use Rattle.joining.specs.Renditions.{next_at as next_piece}
-use Rattle.joining.specs.Planning.{first_at}
+use Rattle.joining.specs.Planning.{first_at, where_ordered}
 
 -- Where the file of a piece begins: what is asked of it, and the frames of the pieces before.
 pub record SwitchAt : Type 0 where
@@ -62,3 +65,7 @@ begins_at positions = record { piece = first_at positions; earlier = [] }
 -- where the file of the next piece begins
 abbrev pub next_at : SwitchAt → List Frame → SwitchAt
 next_at at frames = record { piece = next_piece at.piece frames; earlier = given_so_far at frames }
+
+-- `switch` on files, of which pieces are wanted at these positions
+abbrev pub switches_files : Definitions → List ℕ → Effect
+switches_files d positions = where_ordered (order_result positions) (on_inputs (several (switching d) next_at true) (begins_at positions))

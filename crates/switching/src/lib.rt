@@ -8,5 +8,7 @@
 
 pub mod laws;
 mod switch_task;
+mod switched;
 
 pub use switch_task::Switch;
+pub use switched::switch_files;
