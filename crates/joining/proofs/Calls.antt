@@ -22,7 +22,7 @@ use Rattle.joining.specs.Planning.{planning, first_at, piece_in, where_ordered, 
 use Rattle.joining.specs.Splicing.{splicing, splices_files}
 
 -- a command may end so before it begins a file
-abbrev EndsIdle : Outcome → Type 0
+abbrev pub EndsIdle : Outcome → Type 0
 EndsIdle is.Done = ⊥
 EndsIdle (is.Refused words) = Unit {0}
 EndsIdle is.ReadFault = ⊥
@@ -43,7 +43,7 @@ no_cause counts is.TooLarge h = absurd h
 idle_not : (o fault : Outcome) → EndsIdle o → (EndsIdle fault → ⊥) → o ≢ fault
 idle_not o fault h never e = never (subst EndsIdle e h)
 
-idle_called : {H K C : Type 0} (e : Effect) (names : List (List ℕ)) (w : World H K C) (o : Outcome) → EndsIdle o → ((texts : List (List ℕ)) → e.Does texts [] (traces w w) o) → Called e names w w o
+pub idle_called : {H K C : Type 0} (e : Effect) (names : List (List ℕ)) (w : World H K C) (o : Outcome) → EndsIdle o → ((texts : List (List ℕ)) → e.Does texts [] (traces w w) o) → Called e names w w o
 idle_called e names w o ends does = record {
   taken = [];
   from = tt;
@@ -63,7 +63,7 @@ idle_called e names w o ends does = record {
 }
 
 -- by a refusal, or out of memory
-refused_idle : (within : Option Within) (why : Option Refusal) (o : Outcome) → IsRefusedBy within why o → EndsIdle o
+pub refused_idle : (within : Option Within) (why : Option Refusal) (o : Outcome) → IsRefusedBy within why o → EndsIdle o
 refused_idle within why is.Done h = absurd h
 refused_idle within why (is.Refused words) h = tt
 refused_idle within why is.ReadFault h = absurd h
@@ -75,51 +75,49 @@ refused_idle within why is.TooLarge h = absurd h
 -- where the positions rise, a command does this, and else it is refused
 module _ {H K C : Type 0} (walk : Effect) (positions : List ℕ) (names : List (List ℕ)) (w : World H K C) where
   -- they do not
-  order_refused : (fault : PlanFault) (o : Outcome) → Err fault ≡ order_result positions → IsRefusedBy (Some (inputs.Piece (piece_in fault))) (refusal_of_plan fault) o → Called (where_ordered (order_result positions) walk) names w w o
+  pub order_refused : (fault : PlanFault) (o : Outcome) → Err fault ≡ order_result positions → IsRefusedBy (Some (inputs.Piece (piece_in fault))) (refusal_of_plan fault) o → Called (where_ordered (order_result positions) walk) names w w o
   order_refused fault o is why = subst (λ (q : Result (Unit {0}) PlanFault). Called (where_ordered q walk) names w w o) is
       (let e = where_ordered (Err fault) walk in idle_called e names w o (refused_idle (Some (inputs.Piece (piece_in fault))) (refusal_of_plan fault) o why) (λ texts. (refl, record { written = refl; fed = refl }, why)))
 
   -- there was no memory
-  order_memory : (e : AllocError) → ((texts : List (List ℕ)) → walk.Does texts [] (traces w w) (is.Memory e)) → Called (where_ordered (order_result positions) walk) names w w (is.Memory e)
+  pub order_memory : (e : AllocError) → ((texts : List (List ℕ)) → walk.Does texts [] (traces w w) (is.Memory e)) → Called (where_ordered (order_result positions) walk) names w w (is.Memory e)
   order_memory e does = by_order (order_result positions)
     where
       by_order : (q : Result (Unit {0}) PlanFault) → Called (where_ordered q walk) names w w (is.Memory e)
       by_order (Err fault) = idle_called (where_ordered (Err fault) walk) names w (is.Memory e) tt (λ texts. (refl, record { written = refl; fed = refl }, tt))
       by_order (Ok x) = idle_called walk names w (is.Memory e) tt does
 
+abbrev planned : Definitions → List ℕ → Effect
+planned d positions = on_inputs (several (planning d) next_at false) (first_at positions)
+
+abbrev spliced : Definitions → List ℕ → Effect
+spliced d positions = on_inputs (several (splicing d) next_at false) (first_at positions)
+
 module _ {H K C : Type 0} (d : Definitions) (positions : List ℕ) (names : List (List ℕ)) (w : World H K C) where
-  abbrev planned : Effect
-  planned = on_inputs (several (planning d) next_at false) (first_at positions)
-
-  abbrev spliced : Effect
-  spliced = on_inputs (several (splicing d) next_at false) (first_at positions)
-
   -- the positions do not rise
   pub refused_called : (fault : PlanFault) (o : Outcome) → Err fault ≡ order_result positions → IsRefusedBy (Some (inputs.Piece (piece_in fault))) (refusal_of_plan fault) o → Called (plans_files d positions) names w w o
-  refused_called = order_refused planned positions names w
+  refused_called = order_refused (planned d positions) positions names w
 
   pub splice_refused_called : (fault : PlanFault) (o : Outcome) → Err fault ≡ order_result positions → IsRefusedBy (Some (inputs.Piece (piece_in fault))) (refusal_of_plan fault) o → Called (splices_files d positions) names w w o
-  splice_refused_called = order_refused spliced positions names w
+  splice_refused_called = order_refused (spliced d positions) positions names w
 
   -- there was no memory
   pub memory_called : (e : AllocError) → Called (plans_files d positions) names w w (is.Memory e)
-  memory_called e = order_memory planned positions names w e (λ texts. (record { written = refl; fed = refl }, inr tt))
+  memory_called e = order_memory (planned d positions) positions names w e (λ texts. (record { written = refl; fed = refl }, inr tt))
 
   pub splice_memory_called : (e : AllocError) → Called (splices_files d positions) names w w (is.Memory e)
-  splice_memory_called e = order_memory spliced positions names w e (λ texts. (record { written = refl; fed = refl }, inr tt))
+  splice_memory_called e = order_memory (spliced d positions) positions names w e (λ texts. (record { written = refl; fed = refl }, inr tt))
 
 -- the positions rise
-module _ {H K C : Type 0} (command : PieceAt → Command) (positions xs : List ℕ) (names : List (List ℕ)) (w v : World H K C) (o : Outcome) where
-  order_kept : Ok tt ≡ order_result positions → xs ≡ positions → Called (on_inputs (several command next_at false) (first_at xs)) names w v o
-      → Called (where_ordered (order_result positions) (on_inputs (several command next_at false) (first_at positions))) names w v o
-  order_kept rise same called =
-      subst (λ (q : Result (Unit {0}) PlanFault). Called (where_ordered q (on_inputs (several command next_at false) (first_at positions))) names w v o) rise
-      (subst (λ (ys : List ℕ). Called (on_inputs (several command next_at false) (first_at ys)) names w v o) same called)
+pub order_kept : {H K C : Type 0} (walk : List ℕ → Effect) (positions xs : List ℕ) (names : List (List ℕ)) (w v : World H K C) (o : Outcome) → Ok tt ≡ order_result positions → xs ≡ positions → Called (walk xs) names w v o → Called (where_ordered (order_result positions) (walk positions)) names w v o
+order_kept walk positions xs names w v o rise same called =
+    subst (λ (q : Result (Unit {0}) PlanFault). Called (where_ordered q (walk positions)) names w v o) rise
+    (subst (λ (ys : List ℕ). Called (walk ys) names w v o) same called)
 
 pub ordered_called : {H K C : Type 0} (d : Definitions) (positions xs : List ℕ) (names : List (List ℕ)) (w v : World H K C) (o : Outcome) → Ok tt ≡ order_result positions → xs ≡ positions
     → Called (on_inputs (several (planning d) next_at false) (first_at xs)) names w v o → Called (plans_files d positions) names w v o
-ordered_called d positions xs names w v o = order_kept (planning d) positions xs names w v o
+ordered_called d = order_kept (planned d)
 
 pub splice_ordered_called : {H K C : Type 0} (d : Definitions) (positions xs : List ℕ) (names : List (List ℕ)) (w v : World H K C) (o : Outcome) → Ok tt ≡ order_result positions → xs ≡ positions
     → Called (on_inputs (several (splicing d) next_at false) (first_at xs)) names w v o → Called (splices_files d positions) names w v o
-splice_ordered_called d positions xs names w v o = order_kept (splicing d) positions xs names w v o
+splice_ordered_called d = order_kept (spliced d)

@@ -16,5 +16,6 @@ mod renditions;
 mod splice_task;
 mod spliced;
 
-pub use planned::plan_files;
+pub use planned::{plan_files, refused_positions};
+pub use renditions::Renditions;
 pub use spliced::splice_files;

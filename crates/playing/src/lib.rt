@@ -12,5 +12,6 @@ mod play_end;
 mod play_task;
 mod start_task;
 
+pub use frame_player::{Entry, FramePlayer};
 pub use play_task::Play;
 pub use start_task::Start;

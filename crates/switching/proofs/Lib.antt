@@ -1,0 +1,6 @@
+pub mod GivenFrames
+pub mod Taken
+pub mod SwitchSteps
+pub mod NextPiece
+pub mod PlayedPlan
+pub mod Calls

@@ -1,0 +1,56 @@
+-- What `switch` writes is the cut of a plan.
+use Rattle.std.specs.Prelude.{◌≡◌, ℕ, List, [], ◌∷◌, ◌++◌, map, All}
+use Rattle.std.specs.List.Sorted.{IsStrictlyIncreasing}
+use Rattle.usac_cfg.specs.UsacConfig.{IsWellFormed}
+use Rattle.plans.specs.Coded.{Coded}
+use Rattle.plans.specs.Parts.{Part, spliced}
+use Rattle.plans.specs.SoundPlan.{IsSoundPlan}
+use Rattle.splicer.specs.Pieces.{AreTimedBy}
+use Rattle.splicer.specs.SoFar.{plan_so_far}
+use Rattle.core_iface.specs.Decoding.{Definitions}
+use Rattle.au_stream.specs.Frames.{Frame}
+use Rattle.commands.specs.Commands.{TakesAll, TakesEnd}
+use Rattle.playing.specs.Playing.{output}
+use Rattle.playing.specs.Spliced.{coded, plan_bytes}
+use Rattle.joining.specs.Renditions.{asked_at}
+use Rattle.switching.specs.Switching.{SwitchAt, given_so_far, switching, begins_at, next_at}
+use Rattle.switching.specs.Standing.{ArePlanned}
+
+-- ---- at any frame
+
+-- The plan is sound, the frames are its splice, and their samples are those of the plan.
+pub record ArePlayedBy (d : Definitions) (frames : List Frame) (plan : List Part) : Type 0 where
+  pub sound : IsSoundPlan d.warm plan
+  pub splice : map coded frames ≡ spliced plan
+  pub bytes : output d frames ≡ plan_bytes d plan
+
+-- Whatever the renditions are, and however they go on: what was given out of them so far is played by a sound plan.
+abbrev pub PlaysSoFar : Definitions → Type 0
+PlaysSoFar d = (at : SwitchAt) (frames : List Frame) (h : ArePlanned d.warm at frames) → ArePlayedBy d (given_so_far at frames) (plan_so_far h.parts (asked_at at.piece) (map coded frames))
+
+-- ---- files to their ends
+
+-- the command takes each frame of files with these frames, one file after another, and takes them as all frames of the file
+abbrev pub TakesFiles : Definitions → SwitchAt → List (List Frame) → Type 0
+TakesFiles d at [] = Unit {0}
+TakesFiles d at (frames ∷ files) = TakesAll (switching d at) [] frames × TakesEnd (switching d at) frames × TakesFiles d (next_at at frames) files
+
+-- what it writes for them
+abbrev pub written_for : Definitions → SwitchAt → List (List Frame) → List ℕ
+written_for d at [] = []
+written_for d at (frames ∷ files) = (switching d at).output frames ++ written_for d (next_at at frames) files
+
+-- the streams of files with these frames
+abbrev pub streams_of : List (List Frame) → List (List Coded)
+streams_of files = map (λ frames. map coded frames) files
+
+-- They are taken, and what is written for all of them is the plan: each frame of its parts once, in order, with the samples of its own
+-- stream decoded alone, and with the fades of its joins.
+pub record PlaysPlan (d : Definitions) (positions : List ℕ) (files : List (List Frame)) (plan : List Part) : Type 0 where
+  pub takes : TakesFiles d (begins_at positions) files
+  pub written : written_for d (begins_at positions) files ≡ plan_bytes d plan
+
+-- So it is with all files whose frames are the streams of a sound plan that is timed by the positions.
+abbrev pub PlaysSoundPlans : Definitions → Type 0
+PlaysSoundPlans d = (positions : List ℕ) (files : List (List Frame)) (plan : List Part) → IsStrictlyIncreasing positions → IsSoundPlan d.warm plan → AreTimedBy positions plan
+    → map (λ p. p.stream) plan ≡ streams_of files → All (λ p. All (λ f. IsWellFormed f.config) p.stream) plan → PlaysPlan d positions files plan
