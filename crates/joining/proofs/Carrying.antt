@@ -1,5 +1,5 @@
 -- What `splice` writes, where there is no stop, carries the splice of the plan.
-use Rattle.std.proofs.Common.{◌≡◌, ℕ, ◌+◌, ◌<◌, ◌≤◌, Bool, List, [], ◌∷◌, ◌++◌, length, map, Option, Some, None, true, false, refl, sym, ap, subst, ◌∙◌, arith}
+use Rattle.std.proofs.Common.{◌≡◌, ℕ, ◌+◌, ◌<◌, ◌≤◌, List, [], ◌∷◌, ◌++◌, length, map, Option, Some, None, refl, sym, ap, subst, ◌∙◌, arith}
 use Rattle.std.specs.Prelude.{All}
 use Rattle.std.specs.List.Sorted.{IsStrictlyIncreasing}
 use Rattle.std.proofs.lemmas.List.{map-append}
@@ -29,8 +29,8 @@ use Rattle.au_stream.specs.Frames.{Frame, config_of}
 use Rattle.au_stream.specs.Script.{End, IsScript, most_bytes}
 use Rattle.playing.specs.Spliced.{CarriesSplice, coded}
 use Rattle.joining.specs.Events.{FileScript, order_event, coded_of, AreScripts}
-use Rattle.joining.specs.Splicing.{halt, handed_with, handed_of, handed_over}
-use Rattle.joining.specs.SpliceEvents.{Stop, unless, halt_over, frames_before, file_stop, file_handed, files_stop, files_handed, all_handed}
+use Rattle.joining.specs.Splicing.{halt, handed_with, handed_over}
+use Rattle.joining.specs.SpliceEvents.{unless, halt_over, frames_before, file_stop, file_handed, files_stop, files_handed, all_handed}
 use Rattle.joining.specs.SpliceAnswers.{NoStopIsASplice}
 use Rattle.joining.proofs.HandedFrames.{StandsBy, IsCounted, turn_stands, frames_given}
 use Rattle.joining.proofs.NoEvent.{no_event_is_a_plan, scripts_fine}

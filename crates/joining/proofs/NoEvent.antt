@@ -1,7 +1,6 @@
 -- Files have no event exactly where they are the streams of a sound plan, timed by the positions.
 use Rattle.std.proofs.Common.{◌≡◌, ℕ, ◌+◌, List, [], ◌∷◌, length, map, Option, Some, None, Result, Ok, Err, refl, sym, ap, subst, ◌∙◌, arith}
-use Rattle.std.specs.Prelude.{All, ◌↔◌}
-use Rattle.std.specs.List.Sorted.{IsStrictlyIncreasing}
+use Rattle.std.specs.Prelude.{All}
 use Rattle.std.proofs.lemmas.List.Elements.{All-nil, All-cons}
 use Rattle.usac_cfg.specs.declared.usac_config.UsacConfig.{UsacConfig}
 use Rattle.usac_cfg.specs.UsacConfig.{IsWellFormed}
@@ -12,17 +11,14 @@ use Rattle.timeline.specs.Plan.{first_position}
 use Rattle.timeline.specs.Laws.{JudgesOrder}
 use Rattle.plans.specs.Coded.{Coded}
 use Rattle.plans.specs.Parts.{Part}
-use Rattle.plans.specs.SoundPlan.{IsSoundPlan}
 use Rattle.plans.specs.WholeStream.{stream_config}
 use Rattle.splicer.specs.declared.asked.Asked.{Asked}
 use Rattle.splicer.specs.declared.fault.SpliceFault.{SpliceFault}
-use Rattle.splicer.specs.Pieces.{asked, fault_over, GivesPiece, GiveParts, AreTimedBy}
-use Rattle.splicer.specs.Runs.{new_run, run_over, end}
+use Rattle.splicer.specs.Pieces.{asked, GivesPiece, GiveParts}
 use Rattle.splicer.specs.Laws.{GiveSoundPlans}
-use Rattle.au_stream.specs.Script.{Mark, End, SyncLost, BadElement, Truncated, TooLarge, IsScript}
-use Rattle.playing.specs.Spliced.{coded}
+use Rattle.au_stream.specs.Script.{End, SyncLost, BadElement, Truncated, TooLarge}
 use Rattle.playing.proofs.FineScripts.{script_fine}
-use Rattle.joining.specs.Events.{Close, Marked, Unread, FileScript, Event, Rule, or_event, rule_event, close_event, end_event, coded_of, file_event, files_event, order_event, first_event, IsScriptOf, AreScripts}
+use Rattle.joining.specs.Events.{Close, Marked, Unread, FileScript, Event, or_event, rule_event, close_event, end_event, coded_of, file_event, files_event, order_event, first_event, AreScripts}
 use Rattle.joining.specs.Answers.{ArePlanned, NoEventIsAPlan}
 
 -- ---- one event
@@ -34,7 +30,7 @@ first_none (Some e) y h = absurd cc
 pub both_none : (x y : Option Event) → x ≡ None → y ≡ None → or_event x y ≡ None
 both_none x y h k = ap (λ (o : Option Event). or_event o y) h ∙ k
 
-rule_none : (k : ℕ) (o : Option SpliceFault) → rule_event k o ≡ None → o ≡ None
+pub rule_none : (k : ℕ) (o : Option SpliceFault) → rule_event k o ≡ None → o ≡ None
 rule_none k None h = refl
 rule_none k (Some e) h = absurd cc
 

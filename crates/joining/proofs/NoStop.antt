@@ -1,17 +1,16 @@
 -- Where `splice` has no stop, `plan` has no event: so the files are planned soundly.
-use Rattle.std.proofs.Common.{◌≡◌, ℕ, ◌+◌, List, [], ◌∷◌, length, map, Option, Some, None, Result, Ok, Err, Bool, true, false, refl, ap, ◌∙◌}
+use Rattle.std.proofs.Common.{◌≡◌, ℕ, ◌+◌, List, [], ◌∷◌, length, map, Option, Some, None, Bool, refl, ap, ◌∙◌}
 use Rattle.usac_cfg.specs.declared.usac_config.UsacConfig.{UsacConfig}
-use Rattle.timeline.specs.Order.{order_result}
 use Rattle.timeline.specs.Plan.{first_position}
 use Rattle.plans.specs.WholeStream.{stream_config}
 use Rattle.splicer.specs.declared.asked.Asked.{Asked}
 use Rattle.splicer.specs.declared.fault.SpliceFault.{SpliceFault}
 use Rattle.splicer.specs.Pieces.{asked, fault_over}
 use Rattle.splicer.specs.Rules.{or_then}
-use Rattle.splicer.specs.Runs.{RunValue, new_run, run_over, fault, behind, end}
+use Rattle.splicer.specs.Runs.{RunValue, new_run, fault, behind}
 use Rattle.au_stream.specs.Frames.{Frame, config_of}
 use Rattle.playing.specs.Spliced.{coded}
-use Rattle.joining.specs.Events.{FileScript, Event, or_event, rule_event, close_event, end_event, order_event, coded_of, file_event, files_event, first_event, AreScripts}
+use Rattle.joining.specs.Events.{FileScript, Event, rule_event, coded_of, file_event, files_event, first_event, AreScripts}
 use Rattle.joining.specs.Answers.{ArePlanned, NoEventIsAPlan}
 use Rattle.joining.specs.Splicing.{Halt, halt_with, halt, some_long, handed_of}
 use Rattle.joining.specs.SpliceEvents.{Stop, or_stop, frame_stop, stop_behind, or_halt, halt_over, file_stop, files_stop, first_stop}
@@ -49,7 +48,7 @@ over_none warm v (f ∷ fs) h =
     let here = with_none (fault v (warm (config_of f)) (coded f)) (some_long (handed_of v f)) v.frames both.0 in
     ap (λ (o : Option SpliceFault). or_then o (fault_over warm (behind v (coded f)) (map coded fs))) here ∙ over_none warm (behind v (coded f)) fs both.1
 
-file_none : (warm : UsacConfig → ℕ) (a : Asked) (s : FileScript) → file_stop warm a s ≡ None → file_event warm a s ≡ None
+pub file_none : (warm : UsacConfig → ℕ) (a : Asked) (s : FileScript) → file_stop warm a s ≡ None → file_event warm a s ≡ None
 file_none warm a s h =
     let both = stops_none _ _ h in
     let rules = over_none warm (new_run a) s.frames (frame_none a.piece _ both.0) in

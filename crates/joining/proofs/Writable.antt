@@ -1,6 +1,6 @@
 -- The access units of a file, and their AudioSpecificConfigs, can be written in the canonical mux.
-use Rattle.std.proofs.Common.{◌≡◌, ℕ, ◌+◌, ◌<◌, ◌≤◌, Bool, List, [], ◌∷◌, ◌++◌, Option, Some, None, true, false, refl, sym, ap, subst, ◌∙◌}
-use Rattle.std.specs.Prelude.{All, is_some, ◌||◌, nat_lt}
+use Rattle.std.proofs.Common.{◌≡◌, ℕ, ◌<◌, Bool, List, [], ◌∷◌, ◌++◌, Option, Some, None, true, false, refl, sym, subst}
+use Rattle.std.specs.Prelude.{All, is_some, ◌||◌}
 use Rattle.std.specs.List.{AllByRecursion}
 use Rattle.std.proofs.lemmas.Bool.{ltb-false}
 use Rattle.std.proofs.lemmas.List.Elements.{All-nil, All-cons, All-append}
@@ -23,7 +23,7 @@ use Rattle.au_stream.specs.Elements.{Carries}
 use Rattle.au_stream.specs.Frames.{Frame, config_of, frames_under, frames_from}
 use Rattle.au_stream.specs.Script.{Mark, IsScript}
 use Rattle.playing.specs.Spliced.{coded}
-use Rattle.joining.specs.Splicing.{Halt, handed_with, handed_of, handed_over, is_long, some_long, halt_with, halt}
+use Rattle.joining.specs.Splicing.{handed_with, handed_of, handed_over, is_long, some_long, halt_with, halt}
 use Rattle.joining.specs.SpliceEvents.{halt_over}
 use Rattle.joining.proofs.NoStop.{halts_none}
 
@@ -66,7 +66,7 @@ script_writable text frames mark s = subst AreWritable (sym s.each) (from_writab
 
 -- ---- those that are handed on
 
-with_short : (o : Option SpliceFault) (long : Bool) (n : ℕ) → halt_with o long n ≡ None → long ≡ false
+pub with_short : (o : Option SpliceFault) (long : Bool) (n : ℕ) → halt_with o long n ≡ None → long ≡ false
 with_short None true n h = absurd cc
 with_short None false n h = refl
 with_short (Some e) long n h = absurd cc
