@@ -1,10 +1,9 @@
 -- What is answered to `plan`, from what was promised of the call.
-use Rattle.std.proofs.Common.{◌≡◌, ℕ, zero, suc, ◌<◌, List, [], ◌∷◌, length, map, Option, Some, None, Result, Ok, Err, false, refl, sym, ap, subst, ◌∙◌, arith, ◌⊎◌, inl, inr}
-use Rattle.std.specs.Prelude.{◌≢◌, ◌↔◌, is_some}
+use Rattle.std.proofs.Common.{◌≡◌, ℕ, zero, suc, ◌<◌, List, [], ◌∷◌, length, Option, Some, None, Result, Ok, Err, false, refl, sym, ap, subst, ◌∙◌, arith, ◌⊎◌, inl, inr}
+use Rattle.std.specs.Prelude.{◌≢◌, is_some}
 use Rattle.std.specs.Io.KnownBytes.{append_known}
 use Rattle.timeline.specs.declared.fault.PlanFault.{PlanFault}
 use Rattle.timeline.specs.Order.{order_result}
-use Rattle.splicer.specs.declared.fault.SpliceFault.{SpliceFault}
 use Rattle.splicer.specs.declared.fault.SpliceFault.TheVariants.{Plan}
 use Rattle.outside.specs.declared.shelf.Shelf
 use Rattle.outside.specs.declared.sink.Sink
@@ -18,19 +17,19 @@ use Rattle.commands.specs.declared.outcome.Outcome.{Outcome}
 use Rattle.commands.specs.declared.outcome.Outcome.TheVariants as is
 use Rattle.commands.specs.Calling.{Effect, Called, AreHeld, AllHeld}
 use Rattle.commands.specs.Doing.{IsRefusedBy}
-use Rattle.commands.specs.Ending.{Traces, IsIdle, refusal_of_mark}
-use Rattle.commands.specs.OnInputs.{DoesInputs, ServesInputs, several, on_inputs}
-use Rattle.commands.specs.Ran.{Notes, Noted, Ran, Reports, CausesOf, IsMemory, Settles, status_of, text_of}
+use Rattle.commands.specs.Ending.{Traces, refusal_of_mark}
+use Rattle.commands.specs.OnInputs.{ServesInputs, several, on_inputs}
+use Rattle.commands.specs.Ran.{Notes, Noted, Ran, CausesOf, IsMemory, Settles, status_of, text_of}
 use Rattle.commands.specs.Worlds.{world, traces}
 use Rattle.commands.proofs.Going.{append-none}
 use Rattle.commands.proofs.Rans.{told_status, read_outcome}
-use Rattle.playing.specs.FileAnswers.{WroteBytes, NoneRose}
+use Rattle.playing.specs.FileAnswers.{WroteBytes}
 use Rattle.playing.proofs.FileAnswers.{IsNoFault, none_rose, calm_well}
-use Rattle.joining.specs.Refusals.{refusal_of_plan, refusal_of_splice}
+use Rattle.joining.specs.Refusals.{refusal_of_plan}
 use Rattle.joining.specs.Renditions.{PieceAt, next_at}
-use Rattle.joining.specs.Planning.{planning, first_at, piece_in, refused_before, where_ordered, plans_files}
-use Rattle.joining.specs.Events.{FileScript, Event, Rule, AtMark, NotRead, or_event, order_event, first_event, files_event, files_lines, plan_lines, before_event, AreScripts}
-use Rattle.joining.specs.Answers.{NotesRefusal, TellsMark, TellsEvent, IsDecided, TellsFirst, AreCutShort, IsReadOn, TellsRead, AnswersPlan, GoesWell, PlansSoundly, NoEventIsAPlan}
+use Rattle.joining.specs.Planning.{planning, first_at, piece_in, where_ordered, plans_files}
+use Rattle.joining.specs.Events.{FileScript, Event, Rule, or_event, order_event, first_event, files_event, files_lines, plan_lines, before_event, AreScripts}
+use Rattle.joining.specs.Answers.{NotesRefusal, TellsMark, TellsEvent, IsDecided, TellsFirst, AreCutShort, IsReadOn, TellsRead, GoesWell, PlansSoundly, NoEventIsAPlan}
 use Rattle.joining.proofs.Told.{Says, IsOwn, RefusedBy, Comes, walked, cut_short}
 
 pub first_comes : (positions : List ℕ) → Comes (first_at positions) positions

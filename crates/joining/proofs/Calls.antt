@@ -1,5 +1,5 @@
 -- Calls of the commands on pieces: those that begin no file, and those on files.
-use Rattle.std.proofs.Common.{◌≡◌, ℕ, List, [], false, Option, Some, None, Result, Ok, Err, refl, subst, arith, inr}
+use Rattle.std.proofs.Common.{◌≡◌, ℕ, List, [], false, Option, Some, Result, Ok, Err, refl, subst, arith, inr}
 use Rattle.std.specs.Prelude.{◌≢◌}
 use Rattle.timeline.specs.declared.fault.PlanFault.{PlanFault}
 use Rattle.timeline.specs.Order.{order_result}

@@ -1,5 +1,5 @@
 -- The first event of one file, from what a command on pieces takes of it.
-use Rattle.std.proofs.Common.{◌≡◌, ℕ, ◌+◌, ◌<◌, List, [], ◌∷◌, ◌++◌, length, map, drop, Option, Some, None, Result, Ok, Err, true, false, refl, sym, ap, subst, ◌∙◌, arith}
+use Rattle.std.proofs.Common.{◌≡◌, ℕ, List, [], ◌∷◌, ◌++◌, map, Option, Some, None, Result, Ok, Err, false, refl, sym, ap, ◌∙◌}
 use Rattle.std.proofs.lemmas.List.{append-nil, append_assoc}
 use Rattle.usac_cfg.specs.declared.usac_config.UsacConfig.{UsacConfig}
 use Rattle.timeline.specs.declared.piece.Piece.{Piece}
@@ -8,18 +8,18 @@ use Rattle.splicer.specs.declared.asked.Asked.{Asked}
 use Rattle.splicer.specs.declared.fault.SpliceFault.{SpliceFault}
 use Rattle.splicer.specs.Pieces.{fault_over}
 use Rattle.splicer.specs.Rules.{or_then}
-use Rattle.splicer.specs.Runs.{RunValue, new_run, run_over, fault, behind, end}
+use Rattle.splicer.specs.Runs.{RunValue, new_run, run_over, fault, end}
 use Rattle.core_iface.specs.Decoding.{Definitions}
 use Rattle.tool_text.specs.declared.refusal.Refusal.{Refusal}
 use Rattle.au_stream.specs.Frames.{Frame, config_of}
 use Rattle.au_stream.specs.Script.{Mark, End, SyncLost, BadElement, Truncated, TooLarge}
-use Rattle.commands.specs.Commands.{Takes, TakesAll, TakesEnd}
+use Rattle.commands.specs.Commands.{TakesAll, TakesEnd}
 use Rattle.commands.specs.Ending.{refusal_of_mark}
 use Rattle.playing.specs.Spliced.{coded}
 use Rattle.joining.specs.Refusals.{refusal_of_splice}
-use Rattle.joining.specs.Renditions.{PieceAt, asked_at, run_at, BreaksRule, LacksPiece}
+use Rattle.joining.specs.Renditions.{PieceAt, asked_at, run_at, BreaksRule}
 use Rattle.joining.specs.Planning.{planning, TellsPiece}
-use Rattle.joining.specs.Events.{Close, Marked, Unread, FileScript, Event, Rule, AtMark, NotRead, or_event, rule_event, close_event, end_event, coded_of, file_event, told_by, file_line}
+use Rattle.joining.specs.Events.{Close, Marked, FileScript, Event, Rule, AtMark, or_event, rule_event, close_event, end_event, coded_of, file_event, told_by, file_line}
 use Rattle.joining.proofs.Rules.{IsTold, IsEndTold, frame_told, end_told}
 use Rattle.joining.proofs.PlanSteps.{run_at_push}
 

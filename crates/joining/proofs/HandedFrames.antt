@@ -1,5 +1,5 @@
 -- The frames that the access units of a rendition carry in the canonical mux are those that its check gives.
-use Rattle.std.proofs.Common.{◌≡◌, ℕ, ◌+◌, ◌<◌, Bool, List, [], ◌∷◌, ◌++◌, length, map, Option, Some, None, true, false, refl, sym, ap, subst, ◌∙◌, arith, append_assoc}
+use Rattle.std.proofs.Common.{◌≡◌, ℕ, ◌+◌, ◌<◌, Bool, List, [], ◌∷◌, ◌++◌, length, map, Option, true, false, refl, sym, ap, subst, ◌∙◌, arith}
 use Rattle.std.specs.Prelude.{◌==◌, ◌&&◌, nat_lt, is_none, if◌then◌else◌, All}
 use Rattle.std.proofs.lemmas.Bool.{ltb-true, ltb-false, eqb-true, eqb-false}
 use Rattle.std.proofs.lemmas.List.Elements.{All-head, All-tail}
@@ -14,10 +14,10 @@ use Rattle.splicer.specs.Rules.{from_of}
 use Rattle.splicer.specs.Turns.{to_of, is_before, beginning, turn_at, number_of}
 use Rattle.splicer.specs.Runs.{RunValue, turn, behind}
 use Rattle.splicer.specs.Pieces.{is_given, given_if, given}
-use Rattle.au_stream.specs.Canonical.{Handed, asc_behind, frames_of_handed}
+use Rattle.au_stream.specs.Canonical.{frames_of_handed}
 use Rattle.au_stream.specs.Frames.{Frame, config_of}
 use Rattle.playing.specs.Spliced.{coded}
-use Rattle.joining.specs.Splicing.{handed_with, handed_of, handed_over}
+use Rattle.joining.specs.Splicing.{handed_with, handed_over}
 
 -- ---- where a frame stands, by its turn
 

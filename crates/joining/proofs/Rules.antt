@@ -1,5 +1,5 @@
 -- Each rule of pieces is a refusal: none of them is want of memory.
-use Rattle.std.proofs.Common.{◌≡◌, ℕ, Bool, true, false, List, [], ◌∷◌, length, Option, Some, None, Result, Ok, Err, refl, sym, ◌∙◌, subst}
+use Rattle.std.proofs.Common.{◌≡◌, ℕ, Bool, true, false, List, [], ◌∷◌, length, Option, Some, None, Result, Ok, Err, refl, sym, subst}
 use Rattle.std.specs.Prelude.{◌/◌, ◌%◌, ◌==◌, ◌&&◌, nat_lt, is_some, if◌then◌else◌}
 use Rattle.std.specs.Option.{option_map_or}
 use Rattle.usac_cfg.specs.declared.usac_config.UsacConfig.{UsacConfig}
@@ -14,7 +14,7 @@ use Rattle.preroll.specs.declared.fault.CarryFault.TheVariants as carries
 use Rattle.preroll.specs.declared.fault.PreFault.{PreFault}
 use Rattle.preroll.specs.Payload.{preroll_of, fault_of}
 use Rattle.preroll.specs.Carried.{preroll_bytes, starts_independent}
-use Rattle.preroll.specs.Carrying.{Carried, units_in, first_of, config_in, config_judged, config_rule, short_at, short_unit, nested_unit, nested_rule, preroll_rule, or_carried, bit_of, opened, carried_of, carried_in}
+use Rattle.preroll.specs.Carrying.{Carried, units_in, first_of, config_in, config_judged, config_rule, short_at, short_unit, nested_unit, nested_rule, preroll_rule, or_carried, opened, carried_of, carried_in}
 use Rattle.preroll.specs.Carrying.{short_rule as unit_short_rule, first_rule as first_unit_rule}
 use Rattle.timeline.specs.declared.piece.Piece.{Piece}
 use Rattle.timeline.specs.declared.piece.PieceBounds.{PieceBounds}
@@ -26,12 +26,12 @@ use Rattle.splicer.specs.declared.asked.Asked.{Asked}
 use Rattle.splicer.specs.declared.fault.SpliceFault.{SpliceFault}
 use Rattle.splicer.specs.declared.fault.SpliceFault.TheVariants as splices
 use Rattle.splicer.specs.Foreign.{foreign}
-use Rattle.splicer.specs.Rules.{or_then, fault_if_not, level_rule, bounds_rule, opening_rule, change_rule, short_rule, carry_rule, start_of, start_rule, other_rule, foreign_rule, units_rule, carried_rule, join_rule, first_rule, later_rule, first_fault, later_fault, fault_of as splice_fault_of, from_of}
+use Rattle.splicer.specs.Rules.{or_then, fault_if_not, level_rule, bounds_rule, opening_rule, change_rule, short_rule, carry_rule, start_of, start_rule, other_rule, foreign_rule, carried_rule, join_rule, fault_of as splice_fault_of, from_of}
 use Rattle.splicer.specs.Turns.{to_of}
 use Rattle.splicer.specs.Runs.{RunValue, fault, end, piece_to, piece_of}
 use Rattle.tool_text.specs.declared.refusal.Refusal.{Refusal}
 use Rattle.tool_text.specs.Faults.{refusal_of_carry}
-use Rattle.joining.specs.Refusals.{refusal_of_plan, refusal_of_splice}
+use Rattle.joining.specs.Refusals.{refusal_of_splice}
 
 -- a fault that is there is a refusal
 abbrev pub IsTold : Option SpliceFault → Type 0

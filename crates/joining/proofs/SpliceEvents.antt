@@ -1,5 +1,5 @@
 -- The first stop of one file, from what `splice` takes of it.
-use Rattle.std.proofs.Common.{◌≡◌, ℕ, ◌+◌, ◌<◌, List, [], ◌∷◌, ◌++◌, length, map, Option, Some, None, Result, Ok, Err, Bool, true, false, refl, sym, ap, subst, ◌∙◌, arith}
+use Rattle.std.proofs.Common.{◌≡◌, ℕ, List, [], ◌∷◌, ◌++◌, Option, Some, None, Result, Ok, Err, Bool, true, false, refl, sym, ap, ◌∙◌}
 use Rattle.std.proofs.lemmas.List.{append-nil, append_assoc}
 use Rattle.usac_cfg.specs.declared.usac_config.UsacConfig.{UsacConfig}
 use Rattle.timeline.specs.declared.piece.Piece.{Piece}
@@ -8,15 +8,14 @@ use Rattle.splicer.specs.declared.fault.SpliceFault.{SpliceFault}
 use Rattle.splicer.specs.Runs.{RunValue, new_run, run_over, fault, behind, end}
 use Rattle.core_iface.specs.Decoding.{Definitions}
 use Rattle.tool_text.specs.declared.refusal.Refusal.{Refusal}
-use Rattle.au_stream.specs.Canonical.{Handed, bytes_of_handed}
 use Rattle.au_stream.specs.Frames.{Frame, config_of}
 use Rattle.au_stream.specs.Script.{End}
 use Rattle.commands.specs.Commands.{Takes, TakesAll, TakesEnd}
 use Rattle.playing.specs.Spliced.{coded}
-use Rattle.joining.specs.Renditions.{PieceAt, asked_at, run_at, LacksPiece}
+use Rattle.joining.specs.Renditions.{PieceAt, asked_at, run_at}
 use Rattle.joining.specs.Events.{Close, Marked, FileScript, Event, or_event, close_event, end_event, coded_of}
-use Rattle.joining.specs.Splicing.{Halt, Breaks, Long, refusal_of_halt, halt_with, halt, Halts, some_long, handed_of, handed_over, splicing}
-use Rattle.joining.specs.SpliceEvents.{Stop, AtFrame, Behind, or_stop, frame_stop, stop_behind, or_halt, halt_over, unless, frames_before, file_stop, file_handed}
+use Rattle.joining.specs.Splicing.{Halt, refusal_of_halt, halt_with, halt, some_long, handed_of, splicing}
+use Rattle.joining.specs.SpliceEvents.{AtFrame, Behind, or_stop, frame_stop, stop_behind, or_halt, halt_over, unless, frames_before, file_stop}
 use Rattle.joining.proofs.Rules.{IsTold, IsEndTold, frame_told, end_told}
 use Rattle.joining.proofs.PlanSteps.{run_at_push}
 

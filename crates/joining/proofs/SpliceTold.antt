@@ -1,22 +1,20 @@
 -- What a call of `splice` did is told by the first stop of its files.
-use Rattle.std.proofs.Common.{◌≡◌, ℕ, zero, suc, ◌+◌, ◌<◌, List, [], ◌∷◌, ◌++◌, length, map, drop, Option, Some, None, Result, Ok, Err, Bool, true, false, refl, sym, ap, subst, ◌∙◌, arith, ◌⊎◌, inl, inr}
+use Rattle.std.proofs.Common.{◌≡◌, ℕ, ◌+◌, List, [], ◌∷◌, ◌++◌, length, map, Option, Some, None, Ok, Err, false, refl, sym, ap, subst, ◌∙◌, arith, inl, inr}
 use Rattle.std.specs.Io.KnownBytes.{append_known}
 use Rattle.std.proofs.lemmas.List.{append-nil}
 use Rattle.usac_cfg.specs.declared.usac_config.UsacConfig.{UsacConfig}
 use Rattle.timeline.specs.Plan.{first_position}
-use Rattle.plans.specs.Coded.{Coded}
 use Rattle.plans.specs.WholeStream.{stream_config}
 use Rattle.splicer.specs.declared.asked.Asked.{Asked}
-use Rattle.splicer.specs.declared.fault.SpliceFault.{SpliceFault}
 use Rattle.splicer.specs.Pieces.{asked}
-use Rattle.splicer.specs.Runs.{RunValue, new_run, run_over, end}
+use Rattle.splicer.specs.Runs.{new_run, run_over, end}
 use Rattle.core_iface.specs.Decoding.{Definitions}
 use Rattle.tool_text.specs.declared.refusal.Refusal.{Refusal}
 use Rattle.tool_text.specs.declared.refusal.Within.TheVariants as inputs
 use Rattle.tool_text.specs.RefusalText.{refusal_text}
 use Rattle.au_stream.specs.Canonical.{Handed, bytes_of_handed}
 use Rattle.au_stream.specs.Frames.{Frame}
-use Rattle.au_stream.specs.Script.{Mark, End, SyncLost, BadElement, Truncated, TooLarge, IsScript, IsOpen}
+use Rattle.au_stream.specs.Script.{Mark, End, TooLarge, IsScript}
 use Rattle.au_stream.proofs.Marks.{one_script, same_frames}
 use Rattle.commands.specs.declared.outcome.Outcome.{Outcome}
 use Rattle.commands.specs.declared.outcome.Outcome.TheVariants as is
@@ -27,10 +25,10 @@ use Rattle.playing.specs.FileAnswers.{WroteBytes}
 use Rattle.playing.specs.Spliced.{coded}
 use Rattle.joining.specs.Refusals.{refusal_of_splice}
 use Rattle.joining.specs.Renditions.{PieceAt, asked_at, run_at, next_place, next_at}
-use Rattle.joining.specs.Events.{Close, Marked, Unread, FileScript, Event, Rule, AtMark, NotRead, close_event, coded_of, IsScriptOf, AreScripts}
+use Rattle.joining.specs.Events.{Marked, Unread, FileScript, Rule, AtMark, NotRead, close_event, coded_of, AreScripts}
 use Rattle.joining.specs.Answers.{AreCutShort}
-use Rattle.joining.specs.Splicing.{Halt, refusal_of_halt, handed_over, spliced_bytes, splicing}
-use Rattle.joining.specs.SpliceEvents.{Stop, AtFrame, Behind, or_stop, halt_over, unless, frames_before, file_stop, file_handed, files_stop, files_handed}
+use Rattle.joining.specs.Splicing.{refusal_of_halt, handed_over, spliced_bytes, splicing}
+use Rattle.joining.specs.SpliceEvents.{Stop, AtFrame, Behind, or_stop, halt_over, frames_before, file_stop, file_handed, files_stop, files_handed}
 use Rattle.joining.specs.SpliceAnswers.{IsReadTo}
 use Rattle.joining.proofs.Events.{mark_event}
 use Rattle.joining.proofs.SpliceSteps.{bytes_append}

@@ -1,17 +1,15 @@
 -- What a call of `plan` did is told by the first event of its files.
-use Rattle.std.proofs.Common.{◌≡◌, ℕ, zero, suc, ◌+◌, ◌<◌, List, [], ◌∷◌, ◌++◌, length, map, drop, Option, Some, None, Result, Ok, Err, Bool, true, false, refl, sym, ap, subst, ◌∙◌, arith, ◌⊎◌, inl, inr}
+use Rattle.std.proofs.Common.{◌≡◌, ℕ, zero, suc, ◌+◌, List, [], ◌∷◌, ◌++◌, length, map, drop, Option, Some, None, Ok, Err, Bool, true, false, refl, sym, ap, subst, ◌∙◌, arith, ◌⊎◌, inl, inr}
 use Rattle.std.specs.Prelude.{nat_lt, get_or, if◌then◌else◌}
 use Rattle.std.specs.Io.KnownBytes.{append_known}
-use Rattle.std.proofs.lemmas.List.{append-nil, append_assoc, map-append, get_or-drop, length-drop}
+use Rattle.std.proofs.lemmas.List.{append_assoc, map-append, get_or-drop, length-drop}
 use Rattle.std.proofs.lemmas.Bool.{lt-ltb}
 use Rattle.usac_cfg.specs.declared.usac_config.UsacConfig.{UsacConfig}
-use Rattle.timeline.specs.declared.fault.PlanFault.{PlanFault}
 use Rattle.timeline.specs.Plan.{first_position, next_position}
 use Rattle.plans.specs.Coded.{Coded}
 use Rattle.plans.specs.WholeStream.{stream_config}
 use Rattle.splicer.specs.declared.asked.Asked.{Asked}
 use Rattle.splicer.specs.declared.fault.SpliceFault.{SpliceFault}
-use Rattle.splicer.specs.declared.fault.SpliceFault.TheVariants.{Plan}
 use Rattle.splicer.specs.Pieces.{asked, fault_over}
 use Rattle.splicer.specs.Runs.{RunValue, new_run, run_over, behind, end}
 use Rattle.core_iface.specs.Decoding.{Definitions}
@@ -19,21 +17,21 @@ use Rattle.tool_text.specs.declared.refusal.Refusal.{Refusal}
 use Rattle.tool_text.specs.declared.refusal.Within.TheVariants as inputs
 use Rattle.tool_text.specs.RefusalText.{refusal_text}
 use Rattle.au_stream.specs.Frames.{Frame}
-use Rattle.au_stream.specs.Script.{Mark, End, SyncLost, BadElement, Truncated, TooLarge, IsScript, IsOpen}
+use Rattle.au_stream.specs.Script.{Mark, End, TooLarge, IsScript}
 use Rattle.au_stream.proofs.Marks.{one_script, same_frames}
 use Rattle.commands.specs.declared.outcome.Outcome.{Outcome}
 use Rattle.commands.specs.declared.outcome.Outcome.TheVariants as is
 use Rattle.commands.specs.Commands.{TakesAll, TakesEnd}
 use Rattle.commands.specs.Doing.{IsNotBegun}
-use Rattle.commands.specs.Ending.{Traces, IsRefused, Passes, WroteClosed, refusal_of_mark}
-use Rattle.commands.specs.OnInputs.{Several, Middle, Passed, Stops, DoesInputs, several, until_middle, from_middle}
+use Rattle.commands.specs.Ending.{Traces, IsRefused, Passes, refusal_of_mark}
+use Rattle.commands.specs.OnInputs.{Several, Middle, Passed, Stops, DoesInputs, several, from_middle}
 use Rattle.commands.proofs.Going.{append-none}
 use Rattle.playing.specs.FileAnswers.{WroteBytes}
 use Rattle.playing.specs.Spliced.{coded}
 use Rattle.joining.specs.Refusals.{refusal_of_splice}
 use Rattle.joining.specs.Renditions.{PieceAt, position_at, asked_at, run_at, next_place, next_at}
 use Rattle.joining.specs.Planning.{planning}
-use Rattle.joining.specs.Events.{Close, Marked, Unread, FileScript, Event, Rule, AtMark, NotRead, or_event, close_event, coded_of, file_event, file_line, files_event, files_lines, before_event, IsScriptOf, AreScripts}
+use Rattle.joining.specs.Events.{Marked, Unread, FileScript, Event, Rule, AtMark, NotRead, or_event, close_event, coded_of, file_event, file_line, files_event, files_lines, before_event, AreScripts}
 use Rattle.joining.specs.Answers.{AreCutShort, IsReadOn}
 use Rattle.joining.proofs.Events.{taken_none, next_breaks, end_is, event_rule, event_close, event_end, mark_event, line_is}
 

@@ -1,7 +1,6 @@
 -- What is answered to `plan`, by the first event of its files.
 use Rattle.std.specs.Prelude.{◌≡◌, ◌⊎◌, ◌↔◌, ℕ, List, [], ◌∷◌, map, length, Option, Some, None}
 use Rattle.std.specs.List.Sorted.{IsStrictlyIncreasing}
-use Rattle.plans.specs.Coded.{Coded}
 use Rattle.plans.specs.Parts.{Part}
 use Rattle.plans.specs.SoundPlan.{IsSoundPlan}
 use Rattle.usac_cfg.specs.declared.usac_config.UsacConfig.{UsacConfig}
@@ -10,7 +9,6 @@ use Rattle.splicer.specs.Pieces.{AreTimedBy}
 use Rattle.tool_text.specs.declared.refusal.Refusal.{Refusal}
 use Rattle.tool_text.specs.declared.refusal.Within.TheVariants as inputs
 use Rattle.tool_text.specs.RefusalText.{refusal_text}
-use Rattle.au_stream.specs.Frames.{Frame}
 use Rattle.au_stream.specs.Script.{Mark, End, SyncLost, BadElement, Truncated, TooLarge, IsScript, IsOpen}
 use Rattle.commands.specs.Ending.{Traces, refusal_of_mark}
 use Rattle.commands.specs.Ran.{Notes, Noted}
@@ -18,9 +16,8 @@ use Rattle.commands.specs.Texts.{read_text, large_text}
 use Rattle.commands.specs.Calling.{AreTaken}
 use Rattle.commands.specs.Worlds.{World, traces}
 use Rattle.playing.specs.FileAnswers.{WroteBytes, NoneRose}
-use Rattle.playing.specs.Spliced.{coded}
 use Rattle.joining.specs.Refusals.{refusal_of_splice}
-use Rattle.joining.specs.Events.{Close, Marked, Unread, FileScript, Event, Rule, AtMark, NotRead, coded_of, first_event, plan_lines, IsScriptOf, AreScripts}
+use Rattle.joining.specs.Events.{Marked, Unread, FileScript, Event, Rule, AtMark, NotRead, coded_of, first_event, plan_lines, IsScriptOf, AreScripts}
 
 -- ---- a plan
 

@@ -13,7 +13,7 @@ use Rattle.splicer.specs.declared.fault.SpliceFault.TheVariants.{Plan}
 use Rattle.splicer.specs.Pieces.{asked, fault_over}
 use Rattle.splicer.specs.Runs.{new_run, run_over, end}
 use Rattle.au_stream.specs.Frames.{Frame}
-use Rattle.au_stream.specs.Script.{Mark, End, SyncLost, BadElement, Truncated, TooLarge, IsScript, HasFrames}
+use Rattle.au_stream.specs.Script.{Mark, End, SyncLost, BadElement, Truncated, TooLarge, IsScript}
 use Rattle.playing.specs.Spliced.{coded}
 use Rattle.joining.specs.Planning.{turns, no_lead, lead_of, line_of, piece_in}
 

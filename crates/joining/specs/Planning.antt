@@ -1,6 +1,5 @@
 -- What `plan` refuses, and what it tells of each piece.
-use Rattle.std.specs.Prelude.{◌≡◌, ℕ, List, [], ◌∷◌, map, Bool, false, Some, None, Result, Ok, Err}
-use Rattle.std.specs.Prelude.{Option}
+use Rattle.std.specs.Prelude.{◌≡◌, ℕ, List, [], ◌∷◌, map, false, Some, None, Result, Ok, Err}
 use Rattle.timeline.specs.declared.piece.Piece.{Piece}
 use Rattle.timeline.specs.declared.fault.PlanFault.{PlanFault}
 use Rattle.timeline.specs.declared.fault.PlanFault.TheVariants as plans
@@ -10,7 +9,6 @@ use Rattle.splicer.specs.declared.turn.Turn.{Turn}
 use Rattle.splicer.specs.declared.turn.Turn.TheVariants.{Skip, Start, Join, Play, After}
 use Rattle.splicer.specs.Runs.{RunValue, new_run, turn, behind, end}
 use Rattle.core_iface.specs.Decoding.{Definitions}
-use Rattle.tool_text.specs.declared.refusal.Within.{Within}
 use Rattle.tool_text.specs.declared.refusal.Within.TheVariants as inputs
 use Rattle.tool_text.specs.PieceText.{piece_line}
 use Rattle.au_stream.specs.Frames.{Frame}

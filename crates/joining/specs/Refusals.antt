@@ -1,6 +1,6 @@
 -- Which refusal a rule of pieces is. Out of memory is none, and that an earlier frame was refused.
-use Rattle.std.specs.Prelude.{◌≡◌, ℕ, Option, Some, None}
-use Rattle.tool_text.specs.declared.refusal.Place.TheVariants.{Whole, FrameBit}
+use Rattle.std.specs.Prelude.{◌≡◌, Option, Some, None}
+use Rattle.tool_text.specs.declared.refusal.Place.TheVariants.{Whole}
 use Rattle.tool_text.specs.declared.refusal.Reason.{Reason}
 use Rattle.tool_text.specs.declared.refusal.Reason.TheVariants as reasons
 use Rattle.tool_text.specs.declared.refusal.Refusal.{Refusal}

@@ -1,5 +1,5 @@
 -- Renditions one after another, each with the piece that is wanted of it.
-use Rattle.std.specs.Prelude.{◌≡◌, ℕ, ◌+◌, ◌<◌, ◌^◌, List, [], map, length, false, nat_lt, if◌then◌else◌, get_or, Option, Some, None, Result, Ok, Err}
+use Rattle.std.specs.Prelude.{◌≡◌, ℕ, ◌+◌, ◌<◌, ◌^◌, List, map, length, false, nat_lt, if◌then◌else◌, get_or, Option, Some, None, Result, Ok, Err}
 use Rattle.usac_cfg.specs.declared.usac_config.UsacConfig.{UsacConfig}
 use Rattle.timeline.specs.declared.piece.Piece.{Piece}
 use Rattle.timeline.specs.Plan.{next_position}

@@ -1,5 +1,5 @@
 -- The first event of renditions for `splice`, in the order of the files and of their frames, and the bytes of the frames before it.
-use Rattle.std.specs.Prelude.{◌≡◌, ℕ, ◌+◌, List, [], ◌∷◌, ◌++◌, Option, Some, None, Result}
+use Rattle.std.specs.Prelude.{ℕ, ◌+◌, List, [], ◌∷◌, ◌++◌, Option, Some, None}
 use Rattle.usac_cfg.specs.declared.usac_config.UsacConfig.{UsacConfig}
 use Rattle.timeline.specs.Order.{order_result}
 use Rattle.timeline.specs.Plan.{first_position}
