@@ -13,3 +13,5 @@ pub mod NoStop
 pub mod HandedFrames
 pub mod Writable
 pub mod Carrying
+pub mod PartFrames
+pub mod NoLongFrame

@@ -30,7 +30,7 @@ first_none (Some e) y h = absurd cc
 pub both_none : (x y : Option Event) → x ≡ None → y ≡ None → or_event x y ≡ None
 both_none x y h k = ap (λ (o : Option Event). or_event o y) h ∙ k
 
-rule_none : (k : ℕ) (o : Option SpliceFault) → rule_event k o ≡ None → o ≡ None
+pub rule_none : (k : ℕ) (o : Option SpliceFault) → rule_event k o ≡ None → o ≡ None
 rule_none k None h = refl
 rule_none k (Some e) h = absurd cc
 

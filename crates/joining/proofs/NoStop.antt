@@ -48,7 +48,7 @@ over_none warm v (f ∷ fs) h =
     let here = with_none (fault v (warm (config_of f)) (coded f)) (some_long (handed_of v f)) v.frames both.0 in
     ap (λ (o : Option SpliceFault). or_then o (fault_over warm (behind v (coded f)) (map coded fs))) here ∙ over_none warm (behind v (coded f)) fs both.1
 
-file_none : (warm : UsacConfig → ℕ) (a : Asked) (s : FileScript) → file_stop warm a s ≡ None → file_event warm a s ≡ None
+pub file_none : (warm : UsacConfig → ℕ) (a : Asked) (s : FileScript) → file_stop warm a s ≡ None → file_event warm a s ≡ None
 file_none warm a s h =
     let both = stops_none _ _ h in
     let rules = over_none warm (new_run a) s.frames (frame_none a.piece _ both.0) in

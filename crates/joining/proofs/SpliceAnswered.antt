@@ -5,6 +5,8 @@ use Rattle.std.specs.Io.KnownBytes.{append_known}
 use Rattle.timeline.specs.declared.fault.PlanFault.{PlanFault}
 use Rattle.timeline.specs.Order.{order_result}
 use Rattle.splicer.specs.declared.fault.SpliceFault.TheVariants.{Plan}
+use Rattle.splicer.proofs.Pieces.{gives_sound_pieces}
+use Rattle.splicer.proofs.Plans.{give_sound_plans}
 use Rattle.outside.specs.declared.shelf.Shelf
 use Rattle.outside.specs.declared.sink.Sink
 use Rattle.core_iface.specs.declared.cores.Core
@@ -36,7 +38,7 @@ use Rattle.joining.specs.SpliceEvents.{Stop, AtFrame, Behind, or_stop, stop_behi
 use Rattle.joining.specs.SpliceAnswers.{TellsStop, TellsFirstStop, IsReadTo, TellsReadTo, SplicesSoundly, NoStopIsASplice}
 use Rattle.joining.proofs.Told.{IsOwn}
 use Rattle.joining.proofs.Answered.{first_comes, own_end, not_memory, settled, settled_read, decided_or_memory, held_long, all_held}
-use Rattle.joining.proofs.NoStop.{no_stop_is_planned}
+use Rattle.joining.proofs.NoLongFrame.{no_stop_is_a_plan}
 use Rattle.joining.proofs.SpliceTold.{SaysStop, IsReason, walked, cut_short}
 
 -- ---- an outcome, as a stop
@@ -132,7 +134,7 @@ module _ {H K C : Type 0} (h : Shelf.Ghosts H) (k : Sink.Ghosts K) (g : Core.Gho
   splices_soundly few each ran causes held = record {
     taken = called.taken;
     from = called.from;
-    answers = record { decided = decided; read = read; planned = λ ss are none. no_stop_is_planned law d.warm positions texts ss are long none };
+    answers = record { decided = decided; read = read; planned = λ ss are. no_stop_is_a_plan law give_sound_plans gives_sound_pieces d.warm positions texts ss are long };
     carries = λ some ss are none few. splice_law d.warm positions texts ss are long some none few;
     complete = λ well. decided_or_memory status few.0 few.1 (no_fault well);
   }

@@ -66,7 +66,7 @@ script_writable text frames mark s = subst AreWritable (sym s.each) (from_writab
 
 -- ---- those that are handed on
 
-with_short : (o : Option SpliceFault) (long : Bool) (n : ℕ) → halt_with o long n ≡ None → long ≡ false
+pub with_short : (o : Option SpliceFault) (long : Bool) (n : ℕ) → halt_with o long n ≡ None → long ≡ false
 with_short None true n h = absurd cc
 with_short None false n h = refl
 with_short (Some e) long n h = absurd cc

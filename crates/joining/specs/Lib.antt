@@ -5,4 +5,5 @@ pub mod Splicing
 pub mod Events
 pub mod Answers
 pub mod SpliceEvents
+pub mod PieceFrames
 pub mod SpliceAnswers

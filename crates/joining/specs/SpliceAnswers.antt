@@ -1,5 +1,6 @@
 -- What is answered to `splice`, by the first event of its files.
-use Rattle.std.specs.Prelude.{◌≡◌, ◌⊎◌, ◌<◌, ◌≤◌, ℕ, List, length, Option, Some, None}
+use Rattle.std.specs.Prelude.{◌≡◌, ◌⊎◌, ◌↔◌, ◌<◌, ◌≤◌, ℕ, List, length, Option, Some, None}
+use Rattle.std.specs.List.{AllZip}
 use Rattle.usac_cfg.specs.declared.usac_config.UsacConfig.{UsacConfig}
 use Rattle.core_iface.specs.Decoding.{Definitions}
 use Rattle.au_stream.specs.Script.{most_bytes}
@@ -14,8 +15,19 @@ use Rattle.joining.specs.Events.{FileScript, AreScripts}
 use Rattle.joining.specs.Answers.{ArePlanned, NotesRefusal, TellsEvent, IsDecided, AreCutShort, IsReadOn, GoesWell}
 use Rattle.joining.specs.Splicing.{refusal_of_halt}
 use Rattle.joining.specs.SpliceEvents.{Stop, AtFrame, Behind, first_stop, splice_bytes}
+use Rattle.joining.specs.PieceFrames.{FitElements}
 
 -- ---- a splice
+
+-- The files are planned soundly, and each frame of the plan's parts fits an element of the canonical mux.
+pub record AreSpliceable (warm : UsacConfig → ℕ) (positions : List ℕ) (scripts : List FileScript) : Type 0 where
+  pub plan : ArePlanned warm positions scripts
+  pub fit : AllZip FitElements scripts plan.parts
+
+-- There is no stop exactly where the files are planned soundly and each frame of the pieces fits an element, whatever they are.
+abbrev pub NoStopIsAPlan : Type 0
+NoStopIsAPlan = (warm : UsacConfig → ℕ) (positions : List ℕ) (texts : List (List ℕ)) (scripts : List FileScript) → AreScripts texts scripts
+    → length positions ≡ length texts → (first_stop warm positions scripts ≡ None) ↔ AreSpliceable warm positions scripts
 
 -- Where there is no stop, what is written carries the splice of the sound plan, if it has no more bytes than a file may have.
 abbrev pub NoStopIsASplice : Type 0
@@ -57,8 +69,9 @@ pub record AnswersSplice (d : Definitions) (positions : List ℕ) (texts taken :
   pub decided : IsDecided status → (scripts : List FileScript) → AreScripts texts scripts → TellsFirstStop d positions scripts t n status
   -- At status 3 so much is known of the files as was taken of them.
   pub read : status ≡ 3 → TellsReadTo d positions texts taken t n
-  -- Where there is no stop, the files are the streams of a sound plan, timed by the positions.
-  pub planned : (scripts : List FileScript) → AreScripts texts scripts → first_stop d.warm positions scripts ≡ None → ArePlanned d.warm positions scripts
+  -- There is no stop exactly where the files are the streams of a sound plan, timed by the positions, and each frame of the pieces fits
+  -- an element.
+  pub planned : (scripts : List FileScript) → AreScripts texts scripts → (first_stop d.warm positions scripts ≡ None) ↔ AreSpliceable d.warm positions scripts
 
 -- What is answered to `splice` of files of these names, of which the shelf tells these bytes.
 pub record SplicesSoundly {H K C : Type 0} (d : Definitions) (positions : List ℕ) (names texts : List (List ℕ)) (before after : World H K C) (n : Notes) (status : ℕ) : Type 0 where

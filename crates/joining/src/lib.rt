@@ -4,7 +4,8 @@
 //! them so, and writes their frames as one stream. What becomes of the
 //! files is said by their first event, in the order of the files and of their frames: the first rule that is broken, or the first
 //! file that does not end behind its last frame. [`laws::no_event_is_a_sound_plan`] says that there is none exactly where the files
-//! are whole streams whose pieces make a sound plan, which is timed by the positions.
+//! are whole streams whose pieces make a sound plan, which is timed by the positions. [`laws::no_stop_is_a_sound_plan`] says that
+//! nothing stops [`splice_files`] exactly where they are so and each frame of the pieces fits an element of the canonical mux.
 #![tactic(auto)]
 
 mod fault_end;
