@@ -1,6 +1,6 @@
 -- What is asked, without where it lies in memory.
 use Rattle.std.specs.Prelude.{List, [], unwrap_or}
-use Rattle.xheaac_tool.specs.Words.{Case, Show, Check, Play, Start, Plan, Splice, PieceWords, pieces_of, texts}
+use Rattle.xheaac_tool.specs.Words.{Case, Show, Check, Play, Start, Plan, Splice, Switch, PieceWords, pieces_of, texts}
 use Rattle.xheaac_tool.specs.declared.piece_words.Pairs.{Pairs}
 use Rattle.xheaac_tool.specs.declared.words.Asked.{Asked}
 use Rattle.xheaac_tool.specs.declared.words.Asked.TheVariants as variants
@@ -16,3 +16,4 @@ asked (variants.Play file) = Play file.now
 asked (variants.Start file frame) = Start file.now frame
 asked (variants.Plan pieces) = Plan (pieces_at pieces)
 asked (variants.Splice pieces) = Splice (pieces_at pieces)
+asked (variants.Switch pieces) = Switch (pieces_at pieces)

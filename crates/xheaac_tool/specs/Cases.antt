@@ -9,7 +9,8 @@ use Rattle.xheaac_tool.specs.Showing.{showing}
 use Rattle.xheaac_tool.specs.Checking.{checking}
 use Rattle.joining.specs.Planning.{plans_files}
 use Rattle.joining.specs.Splicing.{splices_files}
-use Rattle.xheaac_tool.specs.Words.{Case, Show, Check, Play, Start, Plan, Splice, positions_of}
+use Rattle.switching.specs.Switching.{switches_files}
+use Rattle.xheaac_tool.specs.Words.{Case, Show, Check, Play, Start, Plan, Splice, Switch, positions_of}
 
 abbrev pub effect_of : Definitions → Case → Effect
 effect_of d (Show file) = on_file showing
@@ -18,3 +19,4 @@ effect_of d (Play file) = on_file (playing d [])
 effect_of d (Start file frame) = on_file (starting d frame)
 effect_of d (Plan pieces) = plans_files d (positions_of pieces)
 effect_of d (Splice pieces) = splices_files d (positions_of pieces)
+effect_of d (Switch pieces) = switches_files d (positions_of pieces)

@@ -2,11 +2,12 @@
 //! the command line, does what they ask for, and answers the status. Its contract says, from the bytes
 //! of the files alone, what was written, what was noted and which status is answered; and where a device
 //! or the core fails, what was written before. [`do_show`], [`do_check`], [`do_play`], [`do_start`],
-//! [`do_plan`] and [`do_splice`] are the commands without their note, for a program that has its own.
+//! [`do_plan`], [`do_splice`] and [`do_switch`] are the commands without their note, for a program that
+//! has its own.
 //!
 //! What they share is the crate `commands`: its runners go over the frames of a file for any task. The
 //! tasks are `show_task` and `check_task`, in the crate `playing` those of `play` and `start`, and in
-//! the crate `joining` those of `plan` and `splice`.
+//! the crate `joining` those of `plan` and `splice`, and in the crate `switching` that of `switch`.
 #![tactic(auto)]
 
 mod check;
@@ -20,6 +21,7 @@ mod show;
 mod show_task;
 mod splice;
 mod start;
+mod switch;
 mod top;
 mod unit_frame;
 mod words;
@@ -31,5 +33,6 @@ pub use play::do_play;
 pub use show::do_show;
 pub use splice::do_splice;
 pub use start::do_start;
+pub use switch::do_switch;
 pub use top::{run, run_line};
 pub use words::WordsFault;

@@ -15,6 +15,7 @@ use crate::play::do_play;
 use crate::show::do_show;
 use crate::splice::do_splice;
 use crate::start::do_start;
+use crate::switch::do_switch;
 use crate::words::{Asked, WordsFault, read_words};
 use commands::{OUT_OF_MEMORY, Outcome, finish, report};
 use core_iface::Core;
@@ -48,6 +49,7 @@ fn do_asked<H: Shelf, K: Sink, C: Core>(
         Asked::Start { .. } => do_start(alloc, words, shelf, out, core),
         Asked::Plan { .. } => do_plan(alloc, words, shelf, out, core),
         Asked::Splice { .. } => do_splice(alloc, words, shelf, out, core),
+        Asked::Switch { .. } => do_switch(alloc, words, shelf, out, core),
     }
 }
 

@@ -28,6 +28,7 @@ pub enum Asked<'a> {
     Start { file: &'a str, frame: u64 },
     Plan { pieces: Pairs<'a> },
     Splice { pieces: Pairs<'a> },
+    Switch { pieces: Pairs<'a> },
 }
 
 /// The one FILE that most commands ask for.
@@ -66,6 +67,7 @@ pub fn read_words<'a>(words: &'a [String]) -> Option<Asked<'a>>
         "start" => read_start(others),
         "plan" => Pairs::read(others).map(|pieces| Asked::Plan { pieces }),
         "splice" => Pairs::read(others).map(|pieces| Asked::Splice { pieces }),
+        "switch" => Pairs::read(others).map(|pieces| Asked::Switch { pieces }),
         _ => None,
     }
 }
