@@ -1,7 +1,7 @@
 //! What `switch` writes.
 //!
 //! The functions run no code; their contracts are the theorems.
-ghost use Rattle.switching.specs.PlayedPlan.{PlaysSoFar, PlaysSoundPlans};
+ghost use Rattle.switching.specs.PlayedPlan.{PlaysBeforeEvents, PlaysSoFar, PlaysSoundPlans};
 
 use core_iface::Core;
 use switch_player::laws;
@@ -21,4 +21,12 @@ pub fn switch_plays_sound_plans<C: Core>()
 {
     laws::sound_splices_converge::<C>();
     splicer::laws::sound_plans_are_given();
+}
+
+/// Whatever files are played, and wherever their first event is: what is given of them before it is the splice of a sound plan, which
+/// is the plan cut short by the event, and its samples are those of this plan.
+pub fn switch_plays_before_events<C: Core>()
+    ensures { PlaysBeforeEvents C.does }
+{
+    laws::sound_splices_converge::<C>();
 }
