@@ -9,3 +9,4 @@ pub mod CutPlans
 pub mod AsPlay
 pub mod AsPlan
 pub mod SwitchTold
+pub mod SwitchAnswered

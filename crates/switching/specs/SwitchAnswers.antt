@@ -40,8 +40,6 @@ pub record AnswersSwitch (d : Definitions) (positions : List ℕ) (texts taken :
   pub decided : IsDecided status → (scripts : List FileScript) → AreScripts texts scripts → TellsFirst d positions scripts t n status
   -- There is no event exactly where the files are the streams of a sound plan, timed by the positions.
   pub planned : (scripts : List FileScript) → AreScripts texts scripts → (first_event d.warm positions scripts ≡ None) ↔ ArePlanned d.warm positions scripts
-  -- Then the status is 0, and the bytes are those of this plan, whole.
-  pub whole : IsDecided status → (scripts : List FileScript) → AreScripts texts scripts → (plan : ArePlanned d.warm positions scripts) → WroteAllOf d positions scripts t status plan
 
 -- What is answered to `switch` of files of these names, of which the shelf tells these bytes.
 pub record SwitchesSoundly {H K C : Type 0} (d : Definitions) (positions : List ℕ) (names texts : List (List ℕ)) (before after : World H K C) (n : Notes) (status : ℕ) : Type 0 where
