@@ -3,7 +3,7 @@ use Rattle.std.proofs.Common.{◌≡◌, ℕ, ◌+◌, ◌<◌, List, [], ◌∷
 use Rattle.std.specs.Prelude.{All}
 use Rattle.std.specs.List.Sorted.{IsStrictlyIncreasing}
 use Rattle.std.proofs.lemmas.List.{append-nil, map-append}
-use Rattle.std.proofs.lemmas.List.Elements.{All-head, All-tail}
+use Rattle.std.proofs.lemmas.List.Elements.{All-head, All-tail, All-nil, All-cons}
 use Rattle.layout.specs.Layout.{FitsOption}
 use Rattle.usac_cfg.specs.declared.usac_config.UsacConfig.{UsacConfig}
 use Rattle.usac_cfg.specs.UsacConfig.{IsWellFormed}
@@ -17,19 +17,29 @@ use Rattle.plans.specs.Parts.{Part, spliced}
 use Rattle.plans.specs.SoundPlan.{IsSoundPlan}
 use Rattle.plans.specs.WholeStream.{stream_config}
 use Rattle.splicer.specs.declared.asked.Asked.{Asked}
-use Rattle.splicer.specs.Pieces.{GivesPiece, part_of, asked, Rises}
+use Rattle.splicer.specs.Laws.{GiveSoundPlans}
+use Rattle.splicer.specs.Pieces.{GivesPiece, GiveParts, part_of, asked, Rises}
 use Rattle.splicer.specs.Runs.{new_run, end}
-use Rattle.splicer.specs.SoFar.{AsksNext, cut_part, part_given}
+use Rattle.splicer.specs.SoFar.{part_up_to, cut_part, part_given}
 use Rattle.splicer.proofs.Later.{AreWell}
+use Rattle.splicer.proofs.Plans.{AllWell, rises_next, rises_later, well_config}
+use Rattle.splicer.proofs.SoFar.{spliced_cut}
+use Rattle.core_iface.specs.Decoding.{Definitions}
+use Rattle.switch_player.specs.Laws.{SplicesConverge}
 use Rattle.au_stream.specs.Frames.{Frame}
-use Rattle.playing.specs.Spliced.{coded}
+use Rattle.au_stream.specs.Script.{End}
+use Rattle.playing.specs.Spliced.{coded, plan_bytes}
+use Rattle.playing.proofs.Taking.{splice_bytes}
+use Rattle.joining.specs.Answers.{ArePlanned as FilesArePlanned}
 use Rattle.joining.specs.Renditions.{asked_at, run_at, next_place}
-use Rattle.joining.specs.Events.{FileScript, Event, coded_of, file_event, order_event}
+use Rattle.joining.specs.Events.{Marked, FileScript, Event, coded_of, file_event, order_event}
 use Rattle.joining.specs.SpliceEvents.{unless}
-use Rattle.joining.proofs.NoEvent.{file_gives}
+use Rattle.joining.proofs.NoEvent.{file_gives, gives_none}
+use Rattle.joining.proofs.SpliceEvents.{unless_none}
 use Rattle.joining.proofs.Told.{Comes, asked_is, next_there, next_comes}
 use Rattle.switching.specs.Switching.{SwitchAt, given_at, begins_at, next_at}
 use Rattle.switching.specs.Standing.{ArePlanned}
+use Rattle.switching.specs.PlayedPlan.{ArePlayedBy, PlaysBeforeEvents}
 use Rattle.switching.specs.CutShort.{file_unbroken, file_given, file_part, files_given, files_parts, all_given, plan_cut_short}
 use Rattle.switching.proofs.CutParts.{all_unbroken, unbroken_passes, unbroken_fine, part_all}
 use Rattle.switching.proofs.NextPiece.{asks_fine, planned_next, parts_next, planned_first, parts_first}
@@ -170,3 +180,67 @@ module _ (warm : UsacConfig → ℕ) where
       by_order : (q : Result (Unit {0}) PlanFault) → order_result positions ≡ q → IsSoundPlan warm (unless (order_event q) (files_parts warm 0 None positions ss)) × (map coded (unless (order_event q) (files_given warm 0 None positions ss)) ≡ spliced (unless (order_event q) (files_parts warm 0 None positions ss)))
       by_order (Err fault) e = (tt, refl)
       by_order (Ok x) e = ordered positions ((judges_order.rises positions).0 e)
+
+-- ---- files of a sound plan
+
+-- the streams of parts are fine, as the files are
+parts_fine : (ss : List FileScript) (ps : List Part) → AllFine ss → map (λ p. p.stream) ps ≡ map coded_of ss → AllWell ps
+parts_fine ss [] fine e = All-nil (λ (p : Part). AreWell p.stream)
+parts_fine [] (p ∷ ps) fine e = absurd cc
+parts_fine (s ∷ ss) (p ∷ ps) fine e =
+    let Fine : FileScript → Type 0 = λ y. AreWell (coded_of y) in
+    let stream : p.stream ≡ coded_of s = cc in
+    let more : map (λ q. q.stream) ps ≡ map coded_of ss = cc in
+    All-cons (λ (q : Part). AreWell q.stream) p ps (subst AreWell (sym stream) (All-head Fine s ss fine)) (parts_fine ss ps (All-tail Fine s ss fine) more)
+
+module _ (warm : UsacConfig → ℕ) where
+  -- a file that gives its piece
+  whole_part : (a : Asked) (s : FileScript) (p : Part) → FitsOption IsWellFormed a.before → Rises a.position a.until → AreWell (coded_of s) → p.stream ≡ coded_of s → GivesPiece warm a (coded_of s) (record { from = p.from; to = p.to }) → file_part warm a s ≡ cut_part p ∷ []
+  whole_part a s p before rises fine stream gives =
+      ap (λ (fs : List Frame). part_given a (map coded fs)) (all_unbroken warm (new_run a) s.frames gives.passes)
+      ∙ (part_all warm a (coded_of s) (record { from = p.from; to = p.to }) before rises fine gives
+      ∙ ap (λ (fs : List Coded). part_up_to fs p.from p.to ∷ []) (sym stream))
+
+  whole_parts : (k : ℕ) (before : Option UsacConfig) (ats : List ℕ) (ss : List FileScript) (ps : List Part) → FitsOption IsWellFormed before → IsStrictlyIncreasing ats → AllFine ss → map (λ p. p.stream) ps ≡ map coded_of ss
+      → map (λ s. s.close) ss ≡ map (λ s. Marked End) ss → GiveParts warm k before ats ps → files_parts warm k before ats ss ≡ map cut_part ps
+  whole_parts k before [] ss [] b rise fine e ended g = refl
+  whole_parts k before [] ss (p ∷ ps) b rise fine e ended g = absurd g
+  whole_parts k before (x ∷ ats) ss [] b rise fine e ended g = absurd g
+  whole_parts k before (x ∷ ats) [] (p ∷ ps) b rise fine e ended g = absurd cc
+  whole_parts k before (x ∷ ats) (s ∷ ss) (p ∷ ps) b rise fine e ended g =
+      let Fine : FileScript → Type 0 = λ y. AreWell (coded_of y) in
+      let a = asked k x (first_position ats) before in
+      let own = All-head Fine s ss fine in
+      let stream : p.stream ≡ coded_of s = cc in
+      let streams : map (λ q. q.stream) ps ≡ map coded_of ss = cc in
+      let close : s.close ≡ Marked End = cc in
+      let closes : map (λ y. y.close) ss ≡ map (λ y. Marked End) ss = cc in
+      let gives = subst (λ (fs : List Coded). GivesPiece warm a fs (record { from = p.from; to = p.to })) stream g.0 in
+      let none = gives_none warm a s (record { from = p.from; to = p.to }) close gives in
+      let give = subst (λ (fs : List Coded). GiveParts warm (k + 1) (stream_config fs) ats ps) stream g.1 in
+      let more = whole_parts (k + 1) (stream_config (coded_of s)) ats ss ps (well_config (coded_of s) own) (rises_later x ats rise) (All-tail Fine s ss fine) streams closes give in
+      let later = files_parts warm (k + 1) (stream_config (coded_of s)) ats ss in
+      ap (λ (qs : List Part). file_part warm a s ++ qs) (unless_none (file_event warm a s) later none)
+      ∙ (ap (λ (qs : List Part). qs ++ later) (whole_part a s p b (rises_next x ats rise) own stream gives) ∙ ap (λ (qs : List Part). cut_part p ∷ qs) more)
+
+-- ---- the laws
+
+module _ (d : Definitions) (converge : SplicesConverge d) where
+  plays_cut : (positions : List ℕ) (ss : List FileScript) → AllFine ss → ArePlayedBy d (all_given d.warm positions ss) (plan_cut_short d.warm positions ss)
+  plays_cut positions ss fine =
+      let cut = cut_soundly d.warm positions ss fine in
+      record { sound = cut.0; splice = cut.1; bytes = splice_bytes d converge (plan_cut_short d.warm positions ss) cut.0 (all_given d.warm positions ss) cut.1 }
+
+  plays_whole : GiveSoundPlans → (positions : List ℕ) (ss : List FileScript) → AllFine ss → (plan : FilesArePlanned d.warm positions ss) → plan_bytes d (plan_cut_short d.warm positions ss) ≡ plan_bytes d plan.parts
+  plays_whole plans positions ss fine plan =
+      let warm = d.warm in
+      let give = (plans warm positions plan.parts plan.rise (parts_fine ss plan.parts fine plan.streams)).1 (plan.sound, plan.timed) in
+      let rise = (judges_order.rises positions).1 plan.rise in
+      let ordered : plan_cut_short warm positions ss ≡ files_parts warm 0 None positions ss = ap (λ (q : Result (Unit {0}) PlanFault). unless (order_event q) (files_parts warm 0 None positions ss)) rise in
+      let parts = ordered ∙ whole_parts warm 0 None positions ss plan.parts tt plan.rise fine plan.streams plan.ended give in
+      let cut = plays_cut positions ss fine in
+      let splice : map coded (all_given warm positions ss) ≡ spliced plan.parts = cut.splice ∙ (ap spliced parts ∙ spliced_cut plan.parts) in
+      sym cut.bytes ∙ splice_bytes d converge plan.parts plan.sound (all_given warm positions ss) splice
+
+  pub plays_before_events : GiveSoundPlans → PlaysBeforeEvents d
+  plays_before_events plans = record { cut = plays_cut; whole = plays_whole plans }

@@ -26,13 +26,13 @@ use Rattle.joining.specs.Renditions.{next_at as next_piece}
 use Rattle.joining.specs.Planning.{where_ordered}
 use Rattle.joining.specs.Events.{FileScript, or_event, order_event, first_event, files_event, coded_of, AreScripts}
 use Rattle.joining.specs.SpliceEvents.{unless}
-use Rattle.joining.specs.Answers.{IsDecided, NoEventIsAPlan}
+use Rattle.joining.specs.Answers.{ArePlanned, TellsEvent, IsDecided, NoEventIsAPlan}
 use Rattle.joining.proofs.Answered.{tells, refused_order, own_end, not_memory, settled, held_long}
 use Rattle.joining.proofs.Told.{Says, IsOwn}
 use Rattle.splicer.proofs.Later.{AreWell}
 use Rattle.switching.specs.CutShort.{files_given, all_given, plan_cut_short}
 use Rattle.switching.specs.PlayedPlan.{PlaysBeforeEvents}
-use Rattle.switching.specs.SwitchAnswers.{WrotePlan, TellsFirst, WroteAllOf, SwitchesSoundly}
+use Rattle.switching.specs.SwitchAnswers.{WrotePlan, TellsFirst, WroteWhole, SwitchesSoundly}
 use Rattle.switching.specs.Switching.{switching, begins_at, next_at, switches_files}
 use Rattle.switching.proofs.AsPlay.{plays_none}
 use Rattle.switching.proofs.Calls.{switched}
@@ -74,7 +74,7 @@ module _ (d : Definitions) (positions : List ℕ) (texts taken : List (List ℕ)
   -- so the plan was written up to the event
   plan_written : PlaysBeforeEvents d → (ss : List FileScript) → AllFine ss → Played ss → WrotePlan d positions ss t
   plan_written plays ss fine h =
-      let plan = plays positions ss fine in
+      let plan = plays.cut positions ss fine in
       let frames = all_given d.warm positions ss in
       let bytes : output_on d [] frames ≡ plan_bytes d (plan_cut_short d.warm positions ss) = sym (output_both d [] frames) ∙ plan.bytes in
       record { plan = plan; wrote = h.written ∙ ap (append_known t.written_before) bytes; fed = h.fed }
@@ -87,7 +87,7 @@ module _ {H K C : Type 0} (h : Shelf.Ghosts H) (k : Sink.Ghosts K) (g : Core.Gho
   switches_soundly few each ran causes held = record {
     taken = called.taken;
     from = called.from;
-    answers = record { decided = decided; planned = λ ss are. law d.warm positions texts ss are long };
+    answers = record { decided = decided; planned = λ ss are. law d.warm positions texts ss are long; whole = whole };
   }
     where
       called : Called (switches_files d positions) names (world h k g s0 o0 c0) (world h k g s1 ran.behind c1) ran.outcome
@@ -122,3 +122,9 @@ module _ {H K C : Type 0} (h : Shelf.Ghosts H) (k : Sink.Ghosts K) (g : Core.Gho
             event = tells n status ended _ x.0 (sym told.0) told.1 (λ z. (ran.finished.noted.done z).0);
             played = plan_written d positions texts called.taken t plays ss (scripts_fine texts ss are) x.1;
           }
+
+      whole : IsDecided status → (ss : List FileScript) → AreScripts texts ss → (plan : ArePlanned d.warm positions ss) → WroteWhole d t status plan.parts
+      whole own_status ss are plan =
+          let x = decided own_status ss are in
+          let none = (law d.warm positions texts ss are long).1 plan in
+          record { status_is = (subst (TellsEvent n status) none x.event).0; wrote = x.played.wrote ∙ ap (append_known t.written_before) (plays.whole positions ss (scripts_fine texts ss are) plan) }

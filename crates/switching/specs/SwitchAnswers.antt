@@ -1,6 +1,7 @@
 -- What is answered to `switch`, by the first event of its files.
 use Rattle.std.specs.Prelude.{◌≡◌, ◌⊎◌, ◌↔◌, ℕ, ◌+◌, [], List, None}
 use Rattle.usac_cfg.specs.declared.usac_config.UsacConfig.{UsacConfig}
+use Rattle.plans.specs.Parts.{Part}
 use Rattle.core_iface.specs.Decoding.{Definitions}
 use Rattle.commands.specs.Calling.{AreTaken}
 use Rattle.commands.specs.Commands.{work}
@@ -28,10 +29,10 @@ pub record TellsFirst (d : Definitions) (positions : List ℕ) (scripts : List F
   pub event : TellsEvent n status (first_event d.warm positions scripts)
   pub played : WrotePlan d positions scripts t
 
--- Files that are the streams of a sound plan: all of it was written.
-pub record WroteAllOf (d : Definitions) (positions : List ℕ) (scripts : List FileScript) (t : Traces) (status : ℕ) (plan : ArePlanned d.warm positions scripts) : Type 0 where
+-- All of the plan was written.
+pub record WroteWhole (d : Definitions) (t : Traces) (status : ℕ) (plan : List Part) : Type 0 where
   pub status_is : status ≡ 0
-  pub wrote : WroteBytes t (plan_bytes d plan.parts)
+  pub wrote : WroteBytes t (plan_bytes d plan)
 
 -- What is answered to `switch` at these positions, of files with these bytes. `taken` is what was taken of each that was begun.
 pub record AnswersSwitch (d : Definitions) (positions : List ℕ) (texts taken : List (List ℕ)) (t : Traces) (n : Notes) (status : ℕ) : Type 0 where
@@ -40,6 +41,8 @@ pub record AnswersSwitch (d : Definitions) (positions : List ℕ) (texts taken :
   pub decided : IsDecided status → (scripts : List FileScript) → AreScripts texts scripts → TellsFirst d positions scripts t n status
   -- There is no event exactly where the files are the streams of a sound plan, timed by the positions.
   pub planned : (scripts : List FileScript) → AreScripts texts scripts → (first_event d.warm positions scripts ≡ None) ↔ ArePlanned d.warm positions scripts
+  -- Then the status is 0, and the bytes are those of this plan, all of it.
+  pub whole : IsDecided status → (scripts : List FileScript) → AreScripts texts scripts → (plan : ArePlanned d.warm positions scripts) → WroteWhole d t status plan.parts
 
 -- What is answered to `switch` of files of these names, of which the shelf tells these bytes.
 pub record SwitchesSoundly {H K C : Type 0} (d : Definitions) (positions : List ℕ) (names texts : List (List ℕ)) (before after : World H K C) (n : Notes) (status : ℕ) : Type 0 where

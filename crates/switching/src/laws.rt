@@ -23,10 +23,11 @@ pub fn switch_plays_sound_plans<C: Core>()
     splicer::laws::sound_plans_are_given();
 }
 
-/// Whatever files are played, and wherever their first event is: what is given of them before it is the splice of a sound plan, which
-/// is the plan cut short by the event, and its samples are those of this plan.
+/// Whatever files are played, and wherever their first event is: what is given of them before it is the splice of a sound plan, the plan
+/// cut short by the event, and has its samples. Files that are the streams of a sound plan are played whole.
 pub fn switch_plays_before_events<C: Core>()
     ensures { PlaysBeforeEvents C.does }
 {
     laws::sound_splices_converge::<C>();
+    splicer::laws::sound_plans_are_given();
 }
