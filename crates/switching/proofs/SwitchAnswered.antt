@@ -1,8 +1,8 @@
 -- What is answered to `switch`, from what was promised of the call.
-use Rattle.std.proofs.Common.{◌≡◌, ℕ, ◌+◌, ◌<◌, List, [], ◌∷◌, length, map, Option, Some, None, Result, Ok, Err, true, refl, sym, ap, subst, ◌∙◌, arith}
+use Rattle.std.proofs.Common.{◌≡◌, ℕ, ◌+◌, ◌<◌, List, [], ◌∷◌, length, map, Option, Some, None, Result, Ok, Err, true, refl, sym, ap, subst, ◌∙◌, arith, ◌++◌, inl, inr}
 use Rattle.std.specs.Prelude.{◌≢◌, All}
 use Rattle.std.specs.Io.KnownBytes.{append_known}
-use Rattle.std.proofs.lemmas.List.Elements.{All-nil, All-cons}
+use Rattle.std.proofs.lemmas.List.Elements.{All-nil, All-cons, All-head, All-tail}
 use Rattle.usac_cfg.specs.UsacConfig.{IsWellFormed}
 use Rattle.timeline.specs.declared.fault.PlanFault.{PlanFault}
 use Rattle.timeline.specs.Order.{order_result}
@@ -10,35 +10,39 @@ use Rattle.outside.specs.declared.shelf.Shelf
 use Rattle.outside.specs.declared.sink.Sink
 use Rattle.core_iface.specs.declared.cores.Core
 use Rattle.core_iface.specs.Decoding.{Definitions}
+use Rattle.au_stream.specs.Frames.{Frame}
+use Rattle.au_stream.specs.Script.{HasFrames}
 use Rattle.commands.specs.declared.outcome.Outcome.{Outcome}
+use Rattle.commands.specs.declared.outcome.Outcome.TheVariants as is
 use Rattle.commands.specs.Calling.{Effect, Called, AreHeld}
 use Rattle.commands.specs.Commands.{units_over, work}
 use Rattle.commands.specs.Ending.{Traces, WroteAll, IsIdle}
-use Rattle.commands.specs.OnInputs.{several, on_inputs}
+use Rattle.commands.specs.OnInputs.{ServesInputs, several, on_inputs}
 use Rattle.commands.specs.Ran.{Notes, Ran, CausesOf, status_of}
 use Rattle.commands.specs.Worlds.{world, traces}
-use Rattle.commands.proofs.Rans.{told_status}
+use Rattle.commands.proofs.Rans.{told_status, read_outcome}
 use Rattle.playing.specs.FileAnswers.{WroteBytes}
-use Rattle.playing.specs.Playing.{playing, output, output_on}
+use Rattle.playing.specs.Playing.{playing, output, output_on, IsServed}
+use Rattle.playing.proofs.FileAnswers.{IsNoFault, none_rose, calm_well}
 use Rattle.playing.specs.Spliced.{plan_bytes}
 use Rattle.playing.proofs.FineScripts.{script_fine}
 use Rattle.joining.specs.Renditions.{next_at as next_piece}
 use Rattle.joining.specs.Planning.{where_ordered}
 use Rattle.joining.specs.Events.{FileScript, or_event, order_event, first_event, files_event, coded_of, AreScripts}
 use Rattle.joining.specs.SpliceEvents.{unless}
-use Rattle.joining.specs.Answers.{ArePlanned, TellsEvent, IsDecided, NoEventIsAPlan}
-use Rattle.joining.proofs.Answered.{tells, refused_order, own_end, not_memory, settled, held_long}
+use Rattle.joining.specs.Answers.{ArePlanned, TellsEvent, IsDecided, AreCutShort, IsReadOn, NoEventIsAPlan}
+use Rattle.joining.proofs.Answered.{tells, refused_order, own_end, not_memory, settled, settled_read, decided_or_memory, held_long, all_held}
 use Rattle.joining.proofs.Told.{Says, IsOwn}
 use Rattle.splicer.proofs.Later.{AreWell}
 use Rattle.switching.specs.CutShort.{files_given, all_given, plan_cut_short}
 use Rattle.switching.specs.PlayedPlan.{PlaysBeforeEvents}
-use Rattle.switching.specs.SwitchAnswers.{WrotePlan, TellsFirst, WroteWhole, SwitchesSoundly}
-use Rattle.switching.specs.Switching.{switching, begins_at, next_at, switches_files}
+use Rattle.switching.specs.SwitchAnswers.{WrotePlan, TellsFirst, TellsRead, WroteWhole, AreServed, PlaysWell, SwitchesSoundly}
+use Rattle.switching.specs.Switching.{SwitchAt, switching, begins_at, next_at, switches_files}
 use Rattle.switching.proofs.AsPlay.{plays_none}
 use Rattle.switching.proofs.Calls.{switched}
 use Rattle.switching.proofs.CutPlans.{AllFine}
 use Rattle.switching.proofs.PlayedPlan.{first_comes, output_both}
-use Rattle.switching.proofs.SwitchTold.{walked}
+use Rattle.switching.proofs.SwitchTold.{walked, cut_short}
 
 -- the frames of scripts of files are fine
 scripts_fine : (texts : List (List ℕ)) (ss : List FileScript) → AreScripts texts ss → AllFine ss
@@ -46,6 +50,15 @@ scripts_fine [] [] are = All-nil (λ (s : FileScript). AreWell (coded_of s))
 scripts_fine [] (s ∷ ss) are = absurd are
 scripts_fine (text ∷ texts) [] are = absurd are
 scripts_fine (text ∷ texts) (s ∷ ss) are = All-cons (λ (x : FileScript). AreWell (coded_of x)) s ss (script_fine text s.frames are.0.0 are.0.2) (scripts_fine texts ss are.1)
+
+cut_fine : (texts taken : List (List ℕ)) (ss : List FileScript) → AreCutShort texts taken ss → AllFine ss
+cut_fine texts taken [] cut = All-nil (λ (s : FileScript). AreWell (coded_of s))
+cut_fine texts [] (s ∷ ss) cut = absurd cc
+cut_fine [] (front ∷ taken) (s ∷ ss) cut = absurd cut
+cut_fine (text ∷ texts) (front ∷ taken) (s ∷ ss) (inl cut) = All-cons (λ (x : FileScript). AreWell (coded_of x)) s ss (script_fine text s.frames cut.0.0 cut.0.2) (cut_fine texts taken ss cut.1)
+cut_fine (text ∷ texts) (front ∷ taken) (s ∷ ss) (inr cut) =
+    let Fine : FileScript → Type 0 = λ x. AreWell (coded_of x) in
+    subst (λ (xs : List FileScript). All Fine (s ∷ xs)) (sym cut.1) (All-cons Fine s [] (script_fine front s.frames cut.3.0 cut.3.1) (All-nil Fine))
 
 -- ---- the effect
 
@@ -71,6 +84,30 @@ module _ (d : Definitions) (positions : List ℕ) (texts taken : List (List ℕ)
       let w = walked d (begins_at positions) positions texts taken ss t o (first_comes positions) long are own h in
       (subst (Says o) (sym (with_order (Ok x) e ss)) w.says, played_with (Ok x) e ss w.played)
 
+  reads_on : (q : Result (Unit {0}) PlanFault) → order_result positions ≡ q → (where_ordered q (switched d positions)).Does texts taken t is.ReadFault → length positions ≡ length texts
+      → (ss : List FileScript) × AreCutShort texts taken ss × IsReadOn (first_event d.warm positions ss) × Played ss
+  reads_on (Err fault) e h long = absurd h.2
+  reads_on (Ok x) e h long =
+      let w = cut_short d (begins_at positions) positions texts taken t (first_comes positions) long h in
+      (w.0, w.1, subst IsReadOn (sym (with_order (Ok x) e w.0)) w.2.says, played_with (Ok x) e w.0 w.2.played)
+
+  -- a frame within others
+  served_at : (before later : List Frame) (f : Frame) → All (IsServed d) ((before ++ f ∷ []) ++ later) → IsServed d f
+  served_at [] later f all = All-head (IsServed d) f later all
+  served_at (g ∷ before) later f all = served_at before later f (All-tail (IsServed d) g ((before ++ f ∷ []) ++ later) all)
+
+  -- a core that serves the files serves what `switch` plays of them
+  serves_walk : (at : SwitchAt) (xs : List (List ℕ)) → AreServed d xs → ServesInputs (several (switching d) next_at true) at xs
+  serves_walk at [] all = tt
+  serves_walk at (x ∷ xs) all =
+      let Served : List ℕ → Type 0 = λ text. (frames : List Frame) → HasFrames text frames → All (IsServed d) frames in
+      let here = All-head Served x xs all in
+      ((λ before f takes given. served_at before takes.later f (here ((before ++ f ∷ []) ++ takes.later) takes.of_file)), (λ next leads. serves_walk next xs (All-tail Served x xs all)))
+
+  serves : (q : Result (Unit {0}) PlanFault) → AreServed d texts → (where_ordered q (switched d positions)).Serves texts
+  serves (Err fault) all = tt
+  serves (Ok x) all = serves_walk (begins_at positions) texts all
+
   -- so the plan was written up to the event
   plan_written : PlaysBeforeEvents d → (ss : List FileScript) → AllFine ss → Played ss → WrotePlan d positions ss t
   plan_written plays ss fine h =
@@ -87,7 +124,8 @@ module _ {H K C : Type 0} (h : Shelf.Ghosts H) (k : Sink.Ghosts K) (g : Core.Gho
   switches_soundly few each ran causes held = record {
     taken = called.taken;
     from = called.from;
-    answers = record { decided = decided; planned = λ ss are. law d.warm positions texts ss are long; whole = whole };
+    answers = record { decided = decided; read = read; planned = λ ss are. law d.warm positions texts ss are long; whole = whole };
+    complete = λ well. decided_or_memory status few.0 few.1 (no_fault well);
   }
     where
       called : Called (switches_files d positions) names (world h k g s0 o0 c0) (world h k g s1 ran.behind c1) ran.outcome
@@ -128,3 +166,15 @@ module _ {H K C : Type 0} (h : Shelf.Ghosts H) (k : Sink.Ghosts K) (g : Core.Gho
           let x = decided own_status ss are in
           let none = (law d.warm positions texts ss are long).1 plan in
           record { status_is = (subst (TellsEvent n status) none x.event).0; wrote = x.played.wrote ∙ ap (append_known t.written_before) (plays.whole positions ss (scripts_fine texts ss are) plan) }
+
+      read : status ≡ 3 → TellsRead d positions texts called.taken t n
+      read three =
+          let at_read = read_outcome n ended status ran.finished.reported three in
+          let o = settled_read _ _ ran.outcome ended ran.finished.flushed.settles at_read in
+          let x = reads_on d positions texts called.taken t (order_result positions) refl (does is.ReadFault o) long in
+          record { scripts = x.0; cut = x.1; on = x.2; played = plan_written d positions texts called.taken t plays x.0 (cut_fine texts called.taken x.0 x.1) x.3; noted = ran.finished.noted.read three }
+
+      no_fault : PlaysWell d texts (world h k g s0 o0 c0) (world h k g s1 o1 c1) → IsNoFault status
+      no_fault (inl calm) = calm_well h k g (switches_files d positions) names texts s0 s1 o0 ran.behind o1 c0 c1 n status ran.outcome ended called ran.finished.flushed.settles ran.finished.flushed.calm_writes ran.finished.reported
+          (all_held (h.bytes s0) names texts held) held (serves d positions texts called.taken t (order_result positions) calm.3) calm.0 calm.1 calm.2
+      no_fault (inr none) = none_rose _ _ status none causes

@@ -21,10 +21,12 @@ use Rattle.commands.specs.OnInputs.{Several, Middle, Passed, Stops, DoesInputs, 
 use Rattle.playing.specs.Playing.{playing}
 use Rattle.playing.specs.Spliced.{coded}
 use Rattle.joining.specs.Renditions.{asked_at, next_place}
-use Rattle.joining.specs.Events.{Marked, FileScript, Event, or_event, coded_of, file_event, files_event, AreScripts}
+use Rattle.joining.specs.Answers.{AreCutShort, IsReadOn}
+use Rattle.joining.specs.Events.{Marked, Unread, FileScript, Event, NotRead, or_event, coded_of, file_event, files_event, AreScripts}
 use Rattle.joining.specs.SpliceEvents.{unless}
+use Rattle.joining.proofs.Events.{event_close}
 use Rattle.joining.proofs.SpliceEvents.{unless_none, unless_some}
-use Rattle.joining.proofs.Told.{Says, IsOwn, Comes, asked_is, next_there, next_comes, event_on, file_passes, stopped, not_own}
+use Rattle.joining.proofs.Told.{Says, IsOwn, Comes, asked_is, next_there, next_comes, event_on, file_none, file_passes, stopped, not_own}
 use Rattle.switching.specs.Switching.{SwitchAt, given, given_at, switching, next_at}
 use Rattle.switching.specs.CutShort.{file_unbroken, file_given, files_given}
 use Rattle.switching.proofs.AsPlan.{unknown, taken_as_planned, ends_as_planned, taken_unbroken, stopped_behind}
@@ -141,3 +143,29 @@ module _ (d : Definitions) where
       let there = next_is_there at x ats comes s ss text front t m next passed script close in
       let more = walked (next_at at s.frames) ats texts taken ss (from_middle t m) o (next_comes at.piece x ats s.frames comes) (omega (arith, n)) are.1 own (subst (λ (y : SwitchAt). DoesInputs switches y texts taken (from_middle t m) o) there h.3) in
       walks_on at x ats comes s ss text front t m next passed script close (Says o) more
+
+  -- ---- a read that failed
+
+  pub cut_short : (at : SwitchAt) (ats : List ℕ) (texts taken : List (List ℕ)) (t : Traces) → Comes at.piece ats → length ats ≡ length texts → DoesInputs switches at texts taken t is.ReadFault
+      → (scripts : List FileScript) × AreCutShort texts taken scripts × Walked IsReadOn at ats scripts t
+  cut_short at [] texts [] t comes n h = ([], refl, record { says = tt; played = plays_none d at.earlier t h.0 })
+  cut_short at (x ∷ ats) texts [] t comes n h = ([], refl, record { says = tt; played = plays_none d at.earlier t h.0 })
+  cut_short at ats [] (front ∷ taken) t comes n h = absurd h
+  cut_short at [] (text ∷ texts) (front ∷ taken) t comes n h = absurd (omega (arith, n))
+  cut_short at (x ∷ ats) (text ∷ texts) (front ∷ taken) t comes n (inl h) =
+      let frames = h.ends.0 in
+      let mark = h.ends.1 in
+      let takes = h.ends.2.takes in
+      let s : FileScript = record { frames = frames; close = Unread } in
+      let event = event_close d.warm (asked_at at.piece) s NotRead (file_none d at.piece s frames refl (taken_as_planned d at [] frames takes)) refl in
+      (s ∷ [], inr (h.last, refl, refl, (mark, h.ends.2.script, h.ends.3)), ends_walk at x ats comes s [] t IsReadOn NotRead frames event tt (taken_unbroken d at frames takes) h.ends.4)
+  cut_short at (x ∷ ats) (text ∷ texts) (front ∷ taken) t comes n (inr h) =
+      let next = h.0 in
+      let m = h.1 in
+      let passed = h.2 in
+      let frames = passed.ends.0 in
+      let script = passed.ends.1.script in
+      let s : FileScript = record { frames = frames; close = Marked End } in
+      let there = next_is_there at x ats comes s [] text front t m next passed script refl in
+      let more = cut_short (next_at at frames) ats texts taken (from_middle t m) (next_comes at.piece x ats frames comes) (omega (arith, n)) (subst (λ (y : SwitchAt). DoesInputs switches y texts taken (from_middle t m) is.ReadFault) there h.3) in
+      (s ∷ more.0, inl ((End, refl, script), more.1), walks_on at x ats comes s more.0 text front t m next passed script refl IsReadOn more.2)
