@@ -60,7 +60,7 @@ module _ (n : Notes) (status : ℕ) where
         | inr x ↦ event_is ev _ x.1 (tells_mark h.piece x.0 h.reason x.2 one line)
       ]
 
-  tells : (o : Outcome) (ev : Option Event) → Says o ev → status ≡ status_of o → Noted n (text_of o) → (status ≡ 0 → n.after ≡ n.before) → TellsEvent n status ev
+  pub tells : (o : Outcome) (ev : Option Event) → Says o ev → status ≡ status_of o → Noted n (text_of o) → (status ≡ 0 → n.after ≡ n.before) → TellsEvent n status ev
   tells is.Done ev h same noted quiet = event_is ev None h (same, quiet same)
   tells (is.Refused words) ev h same noted quiet = tells_refusal words ev h same noted
   tells is.ReadFault ev h same noted quiet = absurd h
@@ -82,7 +82,7 @@ module _ (d : Definitions) (positions : List ℕ) (texts taken : List (List ℕ)
   lines_with : (q : Result (Unit {0}) PlanFault) → order_result positions ≡ q → (ss : List FileScript) → plan_lines d.warm positions ss ≡ before_event (order_event q) [] (files_lines d.warm 0 None positions ss)
   lines_with q e ss = ap (λ (x : Result (Unit {0}) PlanFault). before_event (order_event x) [] (files_lines d.warm 0 None positions ss)) e
 
-  refused_order : (fault : PlanFault) (ev : Option Event) → ev ≡ Some (Rule (piece_in fault) (Plan fault)) → (o : Outcome) → IsOwn o → IsRefusedBy (Some (inputs.Piece (piece_in fault))) (refusal_of_plan fault) o → Says o ev
+  pub refused_order : (fault : PlanFault) (ev : Option Event) → ev ≡ Some (Rule (piece_in fault) (Plan fault)) → (o : Outcome) → IsOwn o → IsRefusedBy (Some (inputs.Piece (piece_in fault))) (refusal_of_plan fault) o → Says o ev
   refused_order fault ev e is.Done own h = absurd h
   refused_order fault ev e (is.Refused words) own h = record { piece = piece_in fault; reason = h.0; words_are = h.2; event = inl (Plan fault, e, h.1) }
   refused_order fault ev e is.ReadFault own h = absurd h

@@ -37,7 +37,7 @@ then_some x y e h = ap (λ (z : Option SpliceFault). or_then z y) h
 -- ---- the frames
 
 module _ (d : Definitions) (at : PieceAt) where
-  here_none : (before : List Frame) (f : Frame) → ((r : Refusal) → BreaksRule d at before f r → ⊥) → fault (run_at at before) (d.warm (config_of f)) (coded f) ≡ None
+  pub here_none : (before : List Frame) (f : Frame) → ((r : Refusal) → BreaksRule d at before f r → ⊥) → fault (run_at at before) (d.warm (config_of f)) (coded f) ≡ None
   here_none before f takes = none_of _ (frame_told (run_at at before) (d.warm (config_of f)) (coded f)) (λ e r is told. takes r (e, is, told))
 
   -- behind frames that break no rule comes what comes behind them

@@ -46,7 +46,7 @@ pub end_none : (k : ℕ) (q : Result Piece SpliceFault) → end_event k q ≡ No
 end_none k (Ok p) h = (p, refl)
 end_none k (Err e) h = absurd cc
 
-order_none : (q : Result (Unit {0}) PlanFault) → order_event q ≡ None → q ≡ Ok tt
+pub order_none : (q : Result (Unit {0}) PlanFault) → order_event q ≡ None → q ≡ Ok tt
 order_none (Ok tt) h = refl
 order_none (Err e) h = absurd cc
 
@@ -55,14 +55,14 @@ order_none (Err e) h = absurd cc
 abbrev part_in : FileScript → Piece → Part
 part_in s p = record { stream = coded_of s; from = p.from; to = p.to }
 
-file_gives : (warm : UsacConfig → ℕ) (a : Asked) (s : FileScript) → file_event warm a s ≡ None → (s.close ≡ Marked End) × ((p : Piece) × GivesPiece warm a (coded_of s) p)
+pub file_gives : (warm : UsacConfig → ℕ) (a : Asked) (s : FileScript) → file_event warm a s ≡ None → (s.close ≡ Marked End) × ((p : Piece) × GivesPiece warm a (coded_of s) p)
 file_gives warm a s h =
     let x = first_none _ _ h in
     let y = first_none _ _ x.1 in
     let p = end_none a.piece _ y.1 in
     (close_none a.piece s.close y.0, (p.0, record { passes = rule_none a.piece _ x.0; ends = p.1 }))
 
-gives_none : (warm : UsacConfig → ℕ) (a : Asked) (s : FileScript) (p : Piece) → s.close ≡ Marked End → GivesPiece warm a (coded_of s) p → file_event warm a s ≡ None
+pub gives_none : (warm : UsacConfig → ℕ) (a : Asked) (s : FileScript) (p : Piece) → s.close ≡ Marked End → GivesPiece warm a (coded_of s) p → file_event warm a s ≡ None
 gives_none warm a s p ends g =
     both_none _ _ (ap (rule_event a.piece) g.passes) (both_none _ _ (ap (close_event a.piece) ends) (ap (end_event a.piece) g.ends))
 

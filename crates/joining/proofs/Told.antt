@@ -1,6 +1,6 @@
 -- What a call of `plan` did is told by the first event of its files.
-use Rattle.std.proofs.Common.{◌≡◌, ℕ, zero, suc, ◌+◌, List, [], ◌∷◌, ◌++◌, length, map, drop, Option, Some, None, Ok, Err, Bool, true, false, refl, sym, ap, subst, ◌∙◌, arith, ◌⊎◌, inl, inr}
-use Rattle.std.specs.Prelude.{nat_lt, get_or, if◌then◌else◌}
+use Rattle.std.proofs.Common.{◌≡◌, ℕ, zero, suc, ◌+◌, ◌<◌, List, [], ◌∷◌, ◌++◌, length, map, drop, Option, Some, None, Result, Ok, Err, Bool, true, false, refl, sym, ap, subst, ◌∙◌, arith, ◌⊎◌, inl, inr}
+use Rattle.std.specs.Prelude.{◌≢◌, nat_lt, get_or, if◌then◌else◌}
 use Rattle.std.specs.Io.KnownBytes.{append_known}
 use Rattle.std.proofs.lemmas.List.{append_assoc, map-append, get_or-drop, length-drop}
 use Rattle.std.proofs.lemmas.Bool.{lt-ltb}
@@ -23,8 +23,8 @@ use Rattle.commands.specs.declared.outcome.Outcome.{Outcome}
 use Rattle.commands.specs.declared.outcome.Outcome.TheVariants as is
 use Rattle.commands.specs.Commands.{TakesAll, TakesEnd}
 use Rattle.commands.specs.Doing.{IsNotBegun}
-use Rattle.commands.specs.Ending.{Traces, IsRefused, Passes, refusal_of_mark}
-use Rattle.commands.specs.OnInputs.{Several, Middle, Passed, Stops, DoesInputs, several, from_middle}
+use Rattle.commands.specs.Ending.{Traces, IsRefused, Passes, Ends, WroteClosed, refusal_of_mark}
+use Rattle.commands.specs.OnInputs.{Several, Middle, Passed, Stops, DoesInputs, several, until_middle, from_middle}
 use Rattle.commands.proofs.Going.{append-none}
 use Rattle.playing.specs.FileAnswers.{WroteBytes}
 use Rattle.playing.specs.Spliced.{coded}
@@ -113,7 +113,7 @@ next_comes at x (y ∷ ats) frames h =
     ap (λ (k : ℕ). drop k at.positions) (next_there at.place at.positions x y ats h ∙ e) ∙ drop_more at.place at.positions x (y ∷ ats) h
 
 -- the event of the files behind one, by where the next begins
-event_on : (warm : UsacConfig → ℕ) (at : PieceAt) (x : ℕ) (ats : List ℕ) (frames : List Frame) (ss : List FileScript) (before : Option UsacConfig) → Comes at (x ∷ ats)
+pub event_on : (warm : UsacConfig → ℕ) (at : PieceAt) (x : ℕ) (ats : List ℕ) (frames : List Frame) (ss : List FileScript) (before : Option UsacConfig) → Comes at (x ∷ ats)
     → files_event warm (next_place at.place at.positions) before ats ss ≡ files_event warm (at.place + 1) before ats ss
 event_on warm at x [] frames ss before h = refl
 event_on warm at x (y ∷ ats) frames ss before h = ap (λ (k : ℕ). files_event warm k before (y ∷ ats) ss) (next_there at.place at.positions x y ats h)
@@ -171,9 +171,15 @@ module _ (d : Definitions) where
 
   -- ---- one file
 
-  module _ (at : PieceAt) (x : ℕ) (ats : List ℕ) (comes : Comes at (x ∷ ats)) (s : FileScript) where
+  -- the file ends the walk by this event
+  pub record Stopped (at : PieceAt) (s : FileScript) (o : Outcome) : Type 0 where
+    pub event : Event
+    pub is : file_event d.warm (asked_at at) s ≡ Some event
+    pub says : Says o (Some event)
+
+  module _ (at : PieceAt) (s : FileScript) where
     -- no rule is broken
-    file_none : (frames : List Frame) → s.frames ≡ frames → TakesAll (planning d at) [] frames → fault_over d.warm (new_run (asked_at at)) (coded_of s) ≡ None
+    pub file_none : (frames : List Frame) → s.frames ≡ frames → TakesAll (planning d at) [] frames → fault_over d.warm (new_run (asked_at at)) (coded_of s) ≡ None
     file_none frames is takes = ap (λ (fs : List Frame). fault_over d.warm (new_run (asked_at at)) (map coded fs)) is ∙ taken_none d at frames takes
 
     -- what is known at its end
@@ -181,51 +187,80 @@ module _ (d : Definitions) where
     end_there frames is = ap (λ (fs : List Frame). end (run_over (new_run (asked_at at)) (map coded fs))) is
 
     -- a file that passes
-    file_passes : (frames : List Frame) → s.frames ≡ frames → s.close ≡ Marked End → TakesAll (planning d at) [] frames → TakesEnd (planning d at) frames → file_event d.warm (asked_at at) s ≡ None
+    pub file_passes : (frames : List Frame) → s.frames ≡ frames → s.close ≡ Marked End → TakesAll (planning d at) [] frames → TakesEnd (planning d at) frames → file_event d.warm (asked_at at) s ≡ None
     file_passes frames is ends takes end =
         let p = end_is d at frames (going_at at frames) end in
         event_end d.warm (asked_at at) s (Ok p.0) (file_none frames is takes) ends (end_there frames is ∙ p.1)
 
-    module _ (text : List ℕ) (mark : Mark) (close : s.close ≡ Marked mark) (script : IsScript text s.frames mark) (ss : List FileScript) (t : Traces) where
+    module _ (text : List ℕ) (mark : Mark) (close : s.close ≡ Marked mark) (script : IsScript text s.frames mark) (t : Traces) where
       -- it is refused
-      refused : (frames : List Frame) (r : Refusal) (words : List ℕ) → IsRefused (planning d at) text frames r t → words ≡ refusal_text (Some (inputs.Piece at.place)) r → Walked (Says (is.Refused words)) at (x ∷ ats) (s ∷ ss) t
+      refused : (frames : List Frame) (r : Refusal) (words : List ℕ) → IsRefused (planning d at) text frames r t → words ≡ refusal_text (Some (inputs.Piece at.place)) r → Stopped at s (is.Refused words)
       refused frames r words (inl h) same =
           let broken = h.refuses in
           let all : s.frames ≡ frames ++ h.frame ∷ h.later = same_frames text s.frames (frames ++ h.frame ∷ h.later) mark script h.of_file in
           let coded_is : coded_of s ≡ map coded frames ++ map coded (h.frame ∷ h.later) = ap (λ (fs : List Frame). map coded fs) all ∙ map-append coded frames (h.frame ∷ h.later) in
           let over : fault_over d.warm (new_run (asked_at at)) (coded_of s) ≡ Some broken.0 = ap (fault_over d.warm (new_run (asked_at at))) coded_is ∙ next_breaks d at frames h.frame h.later r broken.0 h.takes broken.1 in
-          ends_walk at x ats s ss t (Says (is.Refused words)) (Rule at.place broken.0) comes (event_rule d.warm (asked_at at) s broken.0 over)
-          (record { piece = at.place; reason = r; words_are = same; event = inl (broken.0, refl, broken.2) }) h.wrote.written
+          record {
+            event = Rule at.place broken.0;
+            is = event_rule d.warm (asked_at at) s broken.0 over;
+            says = record { piece = at.place; reason = r; words_are = same; event = inl (broken.0, refl, broken.2) };
+          }
       refused frames r words (inr (inl h)) same =
           let one = one_script text s.frames frames mark h.mark script h.script in
-          let over = file_none frames one.0 h.takes in
           let why : refusal_of_mark mark ≡ Some r = ap refusal_of_mark one.1 ∙ h.refuses in
           let event : close_event at.place s.close ≡ Some (AtMark at.place mark) = ap (close_event at.place) close ∙ mark_event at.place mark r why in
-          ends_walk at x ats s ss t (Says (is.Refused words)) (AtMark at.place mark) comes (event_close d.warm (asked_at at) s (AtMark at.place mark) over event)
-          (record { piece = at.place; reason = r; words_are = same; event = inr (mark, refl, why) }) h.wrote.written
+          record {
+            event = AtMark at.place mark;
+            is = event_close d.warm (asked_at at) s (AtMark at.place mark) (file_none frames one.0 h.takes) event;
+            says = record { piece = at.place; reason = r; words_are = same; event = inr (mark, refl, why) };
+          }
       refused frames r words (inr (inr h)) same =
           let one = one_script text s.frames frames mark End script h.passes.script in
           let lacks = h.refuses in
           let ends : s.close ≡ Marked End = close ∙ ap (λ (m : Mark). Marked m) one.1 in
-          let event = event_end d.warm (asked_at at) s (Err lacks.0) (file_none frames one.0 h.passes.takes) ends (end_there frames one.0 ∙ lacks.1) in
-          ends_walk at x ats s ss t (Says (is.Refused words)) (Rule at.place lacks.0) comes event
-          (record { piece = at.place; reason = r; words_are = same; event = inl (lacks.0, refl, lacks.2) }) h.wrote.written
+          record {
+            event = Rule at.place lacks.0;
+            is = event_end d.warm (asked_at at) s (Err lacks.0) (file_none frames one.0 h.passes.takes) ends (end_there frames one.0 ∙ lacks.1);
+            says = record { piece = at.place; reason = r; words_are = same; event = inl (lacks.0, refl, lacks.2) };
+          }
 
       -- it has too many bytes
-      too_large : (frames : List Frame) → Passes (planning d at) text frames TooLarge → t.written_after ≡ append_known t.written_before [] → Walked (Says is.TooLarge) at (x ∷ ats) (s ∷ ss) t
-      too_large frames h written =
+      too_large : (frames : List Frame) → Passes (planning d at) text frames TooLarge → Stopped at s is.TooLarge
+      too_large frames h =
           let one = one_script text s.frames frames mark TooLarge script h.script in
           let event : close_event at.place s.close ≡ Some (AtMark at.place TooLarge) = ap (close_event at.place) (close ∙ ap (λ (m : Mark). Marked m) one.1) in
-          ends_walk at x ats s ss t (Says is.TooLarge) (AtMark at.place TooLarge) comes (event_close d.warm (asked_at at) s (AtMark at.place TooLarge) (file_none frames one.0 h.takes) event) (at.place, refl) written
+          record {
+            event = AtMark at.place TooLarge;
+            is = event_close d.warm (asked_at at) s (AtMark at.place TooLarge) (file_none frames one.0 h.takes) event;
+            says = (at.place, refl);
+          }
 
-      stops : (front : List ℕ) (taken : List (List ℕ)) (o : Outcome) → IsOwn o → Stops plans at text front taken t o → Walked (Says o) at (x ∷ ats) (s ∷ ss) t
-      stops front taken is.Done own h = absurd (h.stopped refl)
-      stops front taken (is.Refused words) own h = refused h.ends.0 h.ends.1 words h.ends.2 h.ends.3
-      stops front taken is.ReadFault own h = absurd own
-      stops front taken is.WriteFault own h = absurd own
-      stops front taken is.CoreFault own h = absurd own
-      stops front taken (is.Memory e) own h = absurd own
-      stops front taken is.TooLarge own h = too_large h.ends.0 h.ends.1 h.ends.2.written
+      pub stopped : (front : List ℕ) (o : Outcome) → IsOwn o → o ≢ is.Done → Ends (planning d at) text front t o → Stopped at s o
+      stopped front is.Done own not h = absurd (not refl)
+      stopped front (is.Refused words) own not h = refused h.0 h.1 words h.2 h.3
+      stopped front is.ReadFault own not h = absurd own
+      stopped front is.WriteFault own not h = absurd own
+      stopped front is.CoreFault own not h = absurd own
+      stopped front (is.Memory e) own not h = absurd own
+      stopped front is.TooLarge own not h = too_large h.0 h.1
+
+  -- nothing is written of a piece that is not told
+  untold : (at : PieceAt) (text front : List ℕ) (t : Traces) (o : Outcome) → IsOwn o → o ≢ is.Done → Ends (planning d at) text front t o → t.written_after ≡ append_known t.written_before []
+  untold at text front t is.Done own not h = absurd (not refl)
+  untold at text front t (is.Refused words) own not (frames, r, inl h, same) = h.wrote.written
+  untold at text front t (is.Refused words) own not (frames, r, inr (inl h), same) = h.wrote.written
+  untold at text front t (is.Refused words) own not (frames, r, inr (inr h), same) = h.wrote.written
+  untold at text front t is.ReadFault own not h = absurd own
+  untold at text front t is.WriteFault own not h = absurd own
+  untold at text front t is.CoreFault own not h = absurd own
+  untold at text front t (is.Memory e) own not h = absurd own
+  untold at text front t is.TooLarge own not h = h.2.written
+
+  stops : (at : PieceAt) (x : ℕ) (ats : List ℕ) (comes : Comes at (x ∷ ats)) (s : FileScript) (ss : List FileScript) (text : List ℕ) (mark : Mark) → s.close ≡ Marked mark → IsScript text s.frames mark
+      → (t : Traces) (front : List ℕ) (taken : List (List ℕ)) (o : Outcome) → IsOwn o → Stops plans at text front taken t o → Walked (Says o) at (x ∷ ats) (s ∷ ss) t
+  stops at x ats comes s ss text mark close script t front taken o own h =
+      let why = stopped at s text mark close script t front o own h.stopped h.ends in
+      ends_walk at x ats s ss t (Says o) why.event comes why.is why.says (untold at text front t o own h.stopped h.ends)
 
   -- a file that passed, and its line
   module _ (at : PieceAt) (x : ℕ) (ats : List ℕ) (comes : Comes at (x ∷ ats)) (s : FileScript) (ss : List FileScript) (text front : List ℕ) (t : Traces) (m : Middle) (next : PieceAt) (passed : Passed plans at text front t m next) (script : IsScript text s.frames End) (close : s.close ≡ Marked End) where
@@ -239,7 +274,7 @@ module _ (d : Definitions) where
     walks_on P more =
         let ends = passed.ends in
         let closed = ends.2 in
-        let none = file_passes at x ats comes s ends.0 frames_are close ends.1.takes closed.takes in
+        let none = file_passes at s ends.0 frames_are close ends.1.takes closed.takes in
         let line : file_line (asked_at at) s ≡ closed.closing = ap (λ (fs : List Frame). file_line (asked_at at) (record { frames = fs; close = s.close })) frames_are ∙ line_is at ends.0 s.close closed.closing closed.closes in
         goes_on at x ats s ss t (from_middle t m) P closed.closing comes none line closed.written refl more
 
@@ -270,7 +305,7 @@ module _ (d : Definitions) where
   walked at ats [] (front ∷ taken) scripts t o comes n are own h = absurd h
   walked at [] (text ∷ texts) (front ∷ taken) scripts t o comes n are own h = absurd (omega (arith, n))
   walked at (x ∷ ats) (text ∷ texts) (front ∷ taken) [] t o comes n are own h = absurd are
-  walked at (x ∷ ats) (text ∷ texts) (front ∷ taken) (s ∷ ss) t o comes n are own (inl h) = stops at x ats comes s text are.0.0 are.0.1 are.0.2 ss t front taken o own h
+  walked at (x ∷ ats) (text ∷ texts) (front ∷ taken) (s ∷ ss) t o comes n are own (inl h) = stops at x ats comes s ss text are.0.0 are.0.1 are.0.2 t front taken o own h
   walked at (x ∷ ats) (text ∷ texts) (front ∷ taken) (s ∷ ss) t o comes n are own (inr h) =
       let next = h.0 in
       let m = h.1 in
@@ -297,7 +332,7 @@ module _ (d : Definitions) where
       let frames = h.ends.0 in
       let mark = h.ends.1 in
       let s : FileScript = record { frames = frames; close = Unread } in
-      let event = event_close d.warm (asked_at at) s NotRead (file_none at x ats comes s frames refl h.ends.2.takes) refl in
+      let event = event_close d.warm (asked_at at) s NotRead (file_none at s frames refl h.ends.2.takes) refl in
       (s ∷ [], inr (h.last, refl, refl, (mark, h.ends.2.script, h.ends.3)), ends_walk at x ats s [] t IsReadOn NotRead comes event tt h.ends.4.written)
   cut_short at (x ∷ ats) (text ∷ texts) (front ∷ taken) t comes n (inr h) =
       let next = h.0 in

@@ -43,7 +43,7 @@ ends_at from n fs g gs e =
     omega (arith, long, less, some)
 
 -- the splice of cut parts
-spliced_cut : (ps : List Part) → spliced (map cut_part ps) ≡ spliced ps
+pub spliced_cut : (ps : List Part) → spliced (map cut_part ps) ≡ spliced ps
 spliced_cut [] = refl
 spliced_cut (p ∷ ps) = ap (λ (xs : List Coded). xs ++ spliced (map cut_part ps)) (frames_cut p) ∙ ap (λ (xs : List Coded). part_frames p ++ xs) (spliced_cut ps)
 

@@ -4,3 +4,9 @@ pub mod SwitchSteps
 pub mod NextPiece
 pub mod PlayedPlan
 pub mod Calls
+pub mod CutParts
+pub mod CutPlans
+pub mod AsPlay
+pub mod AsPlan
+pub mod SwitchTold
+pub mod SwitchAnswered

@@ -54,7 +54,7 @@ some_left zero (x ∷ xs) lt = (x, xs, refl)
 some_left (suc n) (x ∷ xs) lt = some_left n xs (omega (arith, lt))
 
 -- what is asked behind parts: a piece that is not empty, of the number of the parts
-asks_fine : (warm : UsacConfig → ℕ) (k : ℕ) (before : Option UsacConfig) (positions : List ℕ) (ps : List Part) (a : Asked) → FitsOption IsWellFormed before → IsStrictlyIncreasing positions → AllWell ps → AsksNext warm k before positions ps a
+pub asks_fine : (warm : UsacConfig → ℕ) (k : ℕ) (before : Option UsacConfig) (positions : List ℕ) (ps : List Part) (a : Asked) → FitsOption IsWellFormed before → IsStrictlyIncreasing positions → AllWell ps → AsksNext warm k before positions ps a
     → FitsOption IsWellFormed a.before × Rises a.position a.until × (a.piece ≡ k + length ps)
 asks_fine warm k before [] ps a b r all h = absurd h
 asks_fine warm k before (x ∷ xs) [] a b r all h =
@@ -111,6 +111,11 @@ module _ (warm : UsacConfig → ℕ) (at : SwitchAt) (frames : List Frame) (p : 
         passes = refl;
       }
 
+  -- the parts that are known there
+  pub parts_next : (lt : at.piece.place < next_place at.piece.place at.piece.positions) → (planned_next lt).parts ≡ h.parts ++ part_of stream p ∷ []
+  unfolding planned_next
+  parts_next lt = refl
+
 has_piece : (d : Definitions) (at : SwitchAt) (frames : List Frame) (task : Switch) (ready : Option Running) → SwitchStands d at frames task ready → (piece : Result Piece FrameEnd) → GivesEnd piece task.renditions.run → IsOk piece → (p : Piece) × (end (run_at at.piece frames) ≡ Ok p)
 has_piece d at frames task ready st (Ok p) is ok = (p, sym (ap end st.rendition.run) ∙ is)
 has_piece d at frames task ready st (Err e) is ok = absurd (let x : false ≡ true = ok in cc)
@@ -141,6 +146,12 @@ planned_first warm (x ∷ xs) some rise = record {
   well = All-nil (λ (f : Coded). IsWellFormed f.config);
   passes = refl;
 }
+
+-- no part is known there
+pub parts_first : (warm : UsacConfig → ℕ) (positions : List ℕ) (some : 0 < length positions) (rise : IsStrictlyIncreasing positions) → (planned_first warm positions some rise).parts ≡ []
+unfolding planned_first
+parts_first warm [] some rise = absurd (omega (arith, some))
+parts_first warm (x ∷ xs) some rise = refl
 
 pub stands_first : (d : Definitions) (positions : List ℕ) (task : Switch) (ready : Option Running) → 0 < length positions → IsStrictlyIncreasing positions → RenditionStands (first_at positions) [] task.renditions → task.frames.player ≡ record { last = None; stopped = false }
     → SwitchStands d (begins_at positions) [] task ready

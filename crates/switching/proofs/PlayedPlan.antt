@@ -62,7 +62,7 @@ module _ (d : Definitions) (earlier : List Frame) where
   all_both before [] h = subst IsBoth (sym (append-nil before)) h
   all_both before (f ∷ frames) h = subst IsBoth (append_assoc before (f ∷ []) frames) (all_both (before ++ f ∷ []) frames (one_both before f h))
 
-  output_both : (frames : List Frame) → IsBoth frames
+  pub output_both : (frames : List Frame) → IsBoth frames
   output_both frames =
       let none : IsBoth [] = ap (output d) (append-nil earlier) ∙ (sym (append-nil (output d earlier)) ∙ ap (λ (xs : List ℕ). output d earlier ++ xs) (sym (play_command d earlier).nothing)) in
       all_both [] frames none
@@ -162,7 +162,7 @@ module _ (d : Definitions) where
             ∙ append_assoc (map coded at.earlier) (part_frames p) (spliced ps));
       }
 
-first_comes : (positions : List ℕ) → Comes (first_at positions) positions
+pub first_comes : (positions : List ℕ) → Comes (first_at positions) positions
 first_comes [] = tt
 first_comes (x ∷ positions) = refl
 

@@ -13,6 +13,9 @@ use Rattle.commands.specs.Commands.{TakesAll, TakesEnd}
 use Rattle.playing.specs.Playing.{output}
 use Rattle.playing.specs.Spliced.{coded, plan_bytes}
 use Rattle.joining.specs.Renditions.{asked_at}
+use Rattle.joining.specs.Answers.{ArePlanned as FilesArePlanned}
+use Rattle.joining.specs.Events.{FileScript, coded_of}
+use Rattle.switching.specs.CutShort.{all_given, plan_cut_short}
 use Rattle.switching.specs.Switching.{SwitchAt, given_so_far, switching, begins_at, next_at}
 use Rattle.switching.specs.Standing.{ArePlanned}
 
@@ -54,3 +57,15 @@ pub record PlaysPlan (d : Definitions) (positions : List ℕ) (files : List (Lis
 abbrev pub PlaysSoundPlans : Definitions → Type 0
 PlaysSoundPlans d = (positions : List ℕ) (files : List (List Frame)) (plan : List Part) → IsStrictlyIncreasing positions → IsSoundPlan d.warm plan → AreTimedBy positions plan
     → map (λ p. p.stream) plan ≡ streams_of files → All (λ p. All (λ f. IsWellFormed f.config) p.stream) plan → PlaysPlan d positions files plan
+
+-- ---- files with an event
+
+-- the frames of files have well formed configurations
+abbrev pub AreFine : List FileScript → Type 0
+AreFine scripts = All (λ s. All (λ f. IsWellFormed f.config) (coded_of s)) scripts
+
+-- What is given of any files before their first event is the splice of a sound plan, the plan cut short by the event, and has the samples
+-- of this plan. Where the files are the streams of a sound plan that is timed by the positions, these are the samples of all of it.
+pub record PlaysBeforeEvents (d : Definitions) : Type 0 where
+  pub cut : (positions : List ℕ) (scripts : List FileScript) → AreFine scripts → ArePlayedBy d (all_given d.warm positions scripts) (plan_cut_short d.warm positions scripts)
+  pub whole : (positions : List ℕ) (scripts : List FileScript) → AreFine scripts → (plan : FilesArePlanned d.warm positions scripts) → plan_bytes d (plan_cut_short d.warm positions scripts) ≡ plan_bytes d plan.parts

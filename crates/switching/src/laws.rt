@@ -1,7 +1,7 @@
 //! What `switch` writes.
 //!
 //! The functions run no code; their contracts are the theorems.
-ghost use Rattle.switching.specs.PlayedPlan.{PlaysSoFar, PlaysSoundPlans};
+ghost use Rattle.switching.specs.PlayedPlan.{PlaysBeforeEvents, PlaysSoFar, PlaysSoundPlans};
 
 use core_iface::Core;
 use switch_player::laws;
@@ -18,6 +18,15 @@ pub fn switch_plays_so_far<C: Core>()
 /// for all of them is the cut of the plan: no sample is lost, and none is changed beside the fades of joins.
 pub fn switch_plays_sound_plans<C: Core>()
     ensures { PlaysSoundPlans C.does }
+{
+    laws::sound_splices_converge::<C>();
+    splicer::laws::sound_plans_are_given();
+}
+
+/// Whatever files are played, and wherever their first event is: what is given of them before it is the splice of a sound plan, the plan
+/// cut short by the event, and has its samples. Files that are the streams of a sound plan are played whole.
+pub fn switch_plays_before_events<C: Core>()
+    ensures { PlaysBeforeEvents C.does }
 {
     laws::sound_splices_converge::<C>();
     splicer::laws::sound_plans_are_given();

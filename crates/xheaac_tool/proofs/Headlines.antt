@@ -17,8 +17,10 @@ use Rattle.joining.specs.Answers.{NoEventIsAPlan}
 use Rattle.joining.proofs.Answered.{plans_soundly}
 use Rattle.joining.specs.SpliceAnswers.{NoStopIsASplice}
 use Rattle.joining.proofs.SpliceAnswered.{splices_soundly}
-use Rattle.xheaac_tool.specs.Headline.{PlaysSplices, StartsStreams, PlansPieces, SplicesPieces}
-use Rattle.xheaac_tool.specs.Words.{Case, Play, Start, Plan, Splice, files_of, positions_of}
+use Rattle.switching.specs.PlayedPlan.{PlaysBeforeEvents}
+use Rattle.switching.proofs.SwitchAnswered.{switches_soundly}
+use Rattle.xheaac_tool.specs.Headline.{PlaysSplices, StartsStreams, PlansPieces, SplicesPieces, SwitchesPieces}
+use Rattle.xheaac_tool.specs.Words.{Case, Play, Start, Plan, Splice, Switch, files_of, positions_of}
 use Rattle.xheaac_tool.specs.Answered.{Answered}
 
 module _ {H K C : Type 0} (h : Shelf.Ghosts H) (k : Sink.Ghosts K) (c : Core.Ghosts C) (d : Definitions) (s0 s1 : H) (o0 o1 : K) (c0 c1 : C) (n : Notes) (status : ℕ) (case : Option Case) (a : Answered d k case (world h k c s0 o0 c0) (λ sink. world h k c s1 sink c1) o1 n status) where
@@ -47,3 +49,9 @@ module _ {H K C : Type 0} (h : Shelf.Ghosts H) (k : Sink.Ghosts K) (c : Core.Gho
       let b = of_case (Splice pieces) asked in
       let each : length (positions_of pieces) ≡ length (files_of pieces) = length-map pieces (λ p. p.position) ∙ sym (length-map pieces (λ p. p.file)) in
       splices_soundly h k c d law splice_law (positions_of pieces) (files_of pieces) texts s0 s1 o0 o1 c0 c1 n status (b.statuses, b.does.0) each b.does.1 b.causes held
+
+  pub switches_pieces : NoEventIsAPlan → PlaysBeforeEvents d → SwitchesPieces d case (world h k c s0 o0 c0) (world h k c s1 o1 c1) n status
+  switches_pieces law plays = λ pieces texts asked held.
+      let b = of_case (Switch pieces) asked in
+      let each : length (positions_of pieces) ≡ length (files_of pieces) = length-map pieces (λ p. p.position) ∙ sym (length-map pieces (λ p. p.file)) in
+      switches_soundly h k c d law plays (positions_of pieces) (files_of pieces) texts s0 s1 o0 o1 c0 c1 n status (b.statuses, b.does.0) each b.does.1 b.causes held

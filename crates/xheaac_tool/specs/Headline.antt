@@ -13,7 +13,8 @@ use Rattle.playing.specs.SoundStarts.{AnswersStart}
 use Rattle.playing.specs.Starting.{starting}
 use Rattle.joining.specs.Answers.{PlansSoundly}
 use Rattle.joining.specs.SpliceAnswers.{SplicesSoundly}
-use Rattle.xheaac_tool.specs.Words.{Case, Play, Start, Plan, Splice, PieceWords, files_of, positions_of}
+use Rattle.switching.specs.SwitchAnswers.{SwitchesSoundly}
+use Rattle.xheaac_tool.specs.Words.{Case, Play, Start, Plan, Splice, Switch, PieceWords, files_of, positions_of}
 
 -- The shelf tells these bytes of FILE; and shelf, out and core are calm for the command, or no count of their faults rose.
 abbrev pub GoesWell : {H K C : Type 0} → Command → List ℕ → List ℕ → World H K C → World H K C → Type 0
@@ -39,6 +40,11 @@ abbrev pub SplicesPieces : {H K C : Type 0} → Definitions → Option Case → 
 SplicesPieces d case before after n status =
     (pieces : List PieceWords) (texts : List (List ℕ)) → case ≡ Some (Splice pieces) → AreHeld before.bytes (files_of pieces) texts → SplicesSoundly d (positions_of pieces) (files_of pieces) texts before after n status
 
+-- and to `switch FILE POS [FILE POS]...`
+abbrev pub SwitchesPieces : {H K C : Type 0} → Definitions → Option Case → World H K C → World H K C → Notes → ℕ → Type 0
+SwitchesPieces d case before after n status =
+    (pieces : List PieceWords) (texts : List (List ℕ)) → case ≡ Some (Switch pieces) → AreHeld before.bytes (files_of pieces) texts → SwitchesSoundly d (positions_of pieces) (files_of pieces) texts before after n status
+
 -- What is answered to single commands, beyond what each call of a command promises.
 pub record Promises {H K C : Type 0} (d : Definitions) (case : Option Case) (before after : World H K C) (n : Notes) (status : ℕ) : Type 0 where
   -- The headline. Where FILE carries the splice of whole streams at sound joins, `play FILE` writes each frame of the timeline once,
@@ -54,3 +60,6 @@ pub record Promises {H K C : Type 0} (d : Definitions) (case : Option Case) (bef
   -- So it decides what `splice` answers, and which frames it writes; and where there is none, these carry the splice of the plan, so that
   -- `play` of them is answered by `splices`.
   pub joins : SplicesPieces d case before after n status
+  -- So it decides what `switch` answers, and how much of the plan it plays; and where there is none, it plays all of the plan, as `play` does
+  -- of what `splice` writes.
+  pub programmes : SwitchesPieces d case before after n status

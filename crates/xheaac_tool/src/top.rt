@@ -23,6 +23,7 @@ use joining::laws::{no_event_is_a_sound_plan, spliced_files_carry_the_splice};
 use outside::{Shelf, Sink};
 use playing::laws::{play_takes_splices_alone, start_takes_sound_starts};
 use std::alloc::Global;
+use switching::laws::switch_plays_before_events;
 
 const USAGE: &str =
     "usage: xheaac show|check|play FILE | start FILE FRAME | plan|splice|switch FILE POS [FILE POS]... | insert FILE K FADE TARGETS | strip FILE TAIL TARGETS | make START FRAMES\n";
@@ -106,7 +107,8 @@ pub fn run<H: Shelf, K: Sink, N: Sink, C: Core>(
     // any other file is refused at its first faulty frame, behind the samples of the frames before it. In `starts`: where FILE
     // carries a whole stream with a sound start at FRAME, `start FILE FRAME` plays it from there on as decoded alone. In `plans`: the
     // first event of the files decides what `plan` answers, and there is none exactly where they make a sound plan. In `joins`: so it
-    // decides what `splice` answers and writes, and without one the bytes carry the splice of that plan.
+    // decides what `splice` answers and writes, and without one the bytes carry the splice of that plan. In `programmes`: so it decides
+    // what `switch` answers and plays, and without one it plays the whole of that plan.
     ensures promises { Promises C.does (case_of (texts words.now)) (world H.Shelf K.Sink C.Core shelf.old out.old core.old)
         (world H.Shelf K.Sink C.Core shelf.new out.new core.new) (notes N.Sink note.old note.new) result }
 {
@@ -114,6 +116,7 @@ pub fn run<H: Shelf, K: Sink, N: Sink, C: Core>(
     start_takes_sound_starts::<C>();
     no_event_is_a_sound_plan();
     spliced_files_carry_the_splice();
+    switch_plays_before_events::<C>();
     answer(alloc, words, shelf, out, note, core)
 }
 

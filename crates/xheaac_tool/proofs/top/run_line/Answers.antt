@@ -13,4 +13,5 @@ returns-in-Ok-clause-promises g c =
       starts = λ file text frame asked well. promises.starts file text frame (same ∙ asked) well;
       plans = λ pieces files asked held. promises.plans pieces files (same ∙ asked) held;
       joins = λ pieces files asked held. promises.joins pieces files (same ∙ asked) held;
+      programmes = λ pieces files asked held. promises.programmes pieces files (same ∙ asked) held;
     })
