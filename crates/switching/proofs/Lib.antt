@@ -11,4 +11,6 @@ pub mod AsPlan
 pub mod FileSteps
 pub mod SwitchTold
 pub mod CoreTold
+pub mod Fine
 pub mod SwitchAnswered
+pub mod SplicePlayed

@@ -1,10 +1,9 @@
 -- What is answered to `switch`, from what was promised of the call.
-use Rattle.std.proofs.Common.{◌≡◌, ℕ, ◌<◌, List, [], ◌∷◌, length, map, Option, None, Result, Ok, Err, true, refl, sym, ap, subst, ◌∙◌, arith, ◌++◌, inl, inr}
+use Rattle.std.proofs.Common.{◌≡◌, ℕ, ◌<◌, List, [], ◌∷◌, length, Option, None, Result, Ok, Err, true, refl, sym, ap, subst, ◌∙◌, arith, ◌++◌, inl, inr}
 use Rattle.std.specs.Prelude.{◌≢◌, All}
 use Rattle.std.specs.Io.KnownBytes.{append_known}
-use Rattle.std.proofs.lemmas.List.{append-nil, map-append}
-use Rattle.std.proofs.lemmas.List.Elements.{All-nil, All-cons, All-head, All-tail}
-use Rattle.usac_cfg.specs.UsacConfig.{IsWellFormed}
+use Rattle.std.proofs.lemmas.List.{append-nil}
+use Rattle.std.proofs.lemmas.List.Elements.{All-head, All-tail}
 use Rattle.timeline.specs.declared.fault.PlanFault.{PlanFault}
 use Rattle.timeline.specs.Order.{order_result}
 use Rattle.outside.specs.declared.shelf.Shelf
@@ -25,58 +24,25 @@ use Rattle.commands.specs.Worlds.{world, traces}
 use Rattle.commands.proofs.Rans.{told_status, read_outcome, core_outcome}
 use Rattle.playing.specs.Playing.{playing, output_on, IsServed}
 use Rattle.playing.proofs.FileAnswers.{IsNoFault, none_rose, calm_well}
-use Rattle.plans.specs.Coded.{Coded}
-use Rattle.playing.specs.Spliced.{coded, plan_bytes}
-use Rattle.playing.proofs.FineScripts.{script_fine, frames_fine}
+use Rattle.playing.specs.Spliced.{plan_bytes}
 use Rattle.joining.specs.Planning.{where_ordered}
-use Rattle.joining.specs.Events.{FileScript, Event, or_event, order_event, first_event, files_event, coded_of, AreScripts}
+use Rattle.joining.specs.Events.{FileScript, Event, or_event, order_event, first_event, files_event, AreScripts}
 use Rattle.joining.specs.SpliceEvents.{unless}
 use Rattle.joining.specs.Answers.{ArePlanned, TellsEvent, IsDecided, AreCutShort, IsReadOn, NoEventIsAPlan}
 use Rattle.joining.proofs.Answered.{tells, refused_order, own_end, not_memory, settled, settled_read, decided_or_memory, held_long, all_held}
 use Rattle.joining.proofs.SpliceEvents.{unless_none}
 use Rattle.joining.proofs.Told.{Says, IsOwn}
-use Rattle.splicer.proofs.Later.{AreWell}
 use Rattle.switching.specs.CutShort.{files_given, all_given, plan_cut_short}
 use Rattle.switching.specs.PlayedPlan.{PlaysBeforeEvents}
-use Rattle.switching.specs.SwitchAnswers.{WrotePlan, TellsFirst, TellsRead, TellsCore, with_frame, AreReached, WroteWhole, AreServed, PlaysWell, SwitchesSoundly}
+use Rattle.switching.specs.SwitchAnswers.{WrotePlan, TellsFirst, TellsRead, TellsCore, with_frame, WroteWhole, AreServed, PlaysWell, SwitchesSoundly}
 use Rattle.switching.specs.Switching.{SwitchAt, switching, begins_at, next_at, switches_files}
 use Rattle.switching.proofs.AsPlay.{plays_none}
 use Rattle.switching.proofs.Calls.{switched}
 use Rattle.switching.proofs.CoreTold.{Failed, failed_core}
 use Rattle.switching.proofs.CutPlans.{AllFine}
+use Rattle.switching.proofs.Fine.{scripts_fine, cut_fine, reached_fine}
 use Rattle.switching.proofs.PlayedPlan.{first_comes, output_both}
 use Rattle.switching.proofs.SwitchTold.{walked, cut_short}
-
--- the frames of scripts of files are fine
-scripts_fine : (texts : List (List ℕ)) (ss : List FileScript) → AreScripts texts ss → AllFine ss
-scripts_fine [] [] are = All-nil (λ (s : FileScript). AreWell (coded_of s))
-scripts_fine [] (s ∷ ss) are = absurd are
-scripts_fine (text ∷ texts) [] are = absurd are
-scripts_fine (text ∷ texts) (s ∷ ss) are = All-cons (λ (x : FileScript). AreWell (coded_of x)) s ss (script_fine text s.frames are.0.0 are.0.2) (scripts_fine texts ss are.1)
-
-cut_fine : (texts taken : List (List ℕ)) (ss : List FileScript) → AreCutShort texts taken ss → AllFine ss
-cut_fine texts taken [] cut = All-nil (λ (s : FileScript). AreWell (coded_of s))
-cut_fine texts [] (s ∷ ss) cut = absurd cc
-cut_fine [] (front ∷ taken) (s ∷ ss) cut = absurd cut
-cut_fine (text ∷ texts) (front ∷ taken) (s ∷ ss) (inl cut) = All-cons (λ (x : FileScript). AreWell (coded_of x)) s ss (script_fine text s.frames cut.0.0 cut.0.2) (cut_fine texts taken ss cut.1)
-cut_fine (text ∷ texts) (front ∷ taken) (s ∷ ss) (inr cut) =
-    let Fine : FileScript → Type 0 = λ x. AreWell (coded_of x) in
-    subst (λ (xs : List FileScript). All Fine (s ∷ xs)) (sym cut.1) (All-cons Fine s [] (script_fine front s.frames cut.3.0 cut.3.1) (All-nil Fine))
-
-front_fine : (fs gs : List Coded) → AreWell (fs ++ gs) → AreWell fs
-front_fine [] gs w = All-nil (λ (f : Coded). IsWellFormed f.config)
-front_fine (f ∷ fs) gs w = let Well : Coded → Type 0 = λ x. IsWellFormed x.config in All-cons Well f fs (All-head Well f (fs ++ gs) w) (front_fine fs gs (All-tail Well f (fs ++ gs) w))
-
-reached_fine : (texts taken : List (List ℕ)) (ss : List FileScript) (f : Frame) → AreReached texts taken ss f → AllFine ss
-reached_fine texts [] ss f h = absurd h
-reached_fine [] (front ∷ taken) ss f h = absurd h
-reached_fine (text ∷ texts) (front ∷ taken) [] f h = absurd h
-reached_fine (text ∷ texts) (front ∷ taken) (s ∷ ss) f (inl h) = All-cons (λ (x : FileScript). AreWell (coded_of x)) s ss (script_fine text s.frames h.0.0 h.0.2) (reached_fine texts taken ss f h.1)
-reached_fine (text ∷ texts) (front ∷ taken) (s ∷ ss) f (inr h) =
-    let Fine : FileScript → Type 0 = λ x. AreWell (coded_of x) in
-    let all = frames_fine text (s.frames ++ f ∷ h.3.0) h.3.1 in
-    let own = front_fine (map coded s.frames) (map coded (f ∷ h.3.0)) (subst AreWell (map-append coded s.frames (f ∷ h.3.0)) all) in
-    subst (λ (xs : List FileScript). All Fine (s ∷ xs)) (sym h.1) (All-cons Fine s [] own (All-nil Fine))
 
 -- ---- the effect
 
