@@ -58,7 +58,7 @@ units_push c before [] f = omega (arith, ap (λ (x : List Frame). c.units x f) (
 units_push c before (g ∷ fs) f = omega (arith, units_push c (before ++ g ∷ []) fs f, ap (λ (x : List Frame). c.units x f) (append_assoc before (g ∷ []) fs))
 
 -- the work of one frame more
-work_more : (c : Command) (fs : List Frame) (f : Frame) → work c (fs ++ f ∷ []) ≡ work c fs + c.units fs f
+pub work_more : (c : Command) (fs : List Frame) (f : Frame) → work c (fs ++ f ∷ []) ≡ work c fs + c.units fs f
 work_more c fs f = units_push c [] fs f
 
 units_few : (j : Command) (laws : IsCommand j) (before fs : List Frame) → units_over j before fs ≤ most_units * length fs

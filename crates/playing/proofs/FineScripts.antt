@@ -12,7 +12,7 @@ use Rattle.latm.specs.MuxElement.{then_in_force, opening}
 use Rattle.plans.specs.Coded.{Coded}
 use Rattle.au_stream.specs.Elements.{Carries}
 use Rattle.au_stream.specs.Frames.{Frame, frames_under, frames_from}
-use Rattle.au_stream.specs.Script.{Mark, IsScript}
+use Rattle.au_stream.specs.Script.{Mark, HasFrames, IsScript}
 use Rattle.playing.specs.Spliced.{coded}
 
 abbrev IsFine : Coded → Type 0
@@ -34,6 +34,9 @@ from_fine before text (e ∷ es) rest w c =
     let here : FitsOption IsMuxWellFormed now = force_fine before e.config w c.4.fits.0 in
     subst (All IsFine) (sym (map-append coded (frames_under now (is_some e.config) e.slots) (frames_from now es)))
     (All-append IsFine _ _ (under_fine now (is_some e.config) e.slots here) (from_fine now c.1 es rest here c.5))
+
+pub frames_fine : (text : List ℕ) (frames : List Frame) → HasFrames text frames → All IsFine (map coded frames)
+frames_fine text frames h = subst (λ (fs : List Frame). All IsFine (map coded fs)) (sym h.each) (from_fine None _ h.elements h.rest tt h.longest.carried)
 
 pub script_fine : (text : List ℕ) (frames : List Frame) (mark : Mark) → IsScript text frames mark → All IsFine (map coded frames)
 script_fine text frames mark s = subst (λ (fs : List Frame). All IsFine (map coded fs)) (sym s.each) (from_fine None _ s.elements s.rest tt s.longest.carried)

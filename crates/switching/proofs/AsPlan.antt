@@ -1,10 +1,9 @@
 -- `switch` refuses of a file what `plan` refuses of it, and nothing else.
-use Rattle.std.proofs.Common.{◌≡◌, ℕ, List, [], ◌∷◌, ◌++◌, map, Option, Some, None, refl, sym, ap, subst, ◌∙◌, arith, inl, inr}
+use Rattle.std.proofs.Common.{◌≡◌, ℕ, List, [], ◌∷◌, ◌++◌, None, refl, sym, ap, ◌∙◌, arith, inl, inr}
 use Rattle.std.specs.Prelude.{◌≢◌}
 use Rattle.std.specs.Io.KnownBytes.{append_known}
 use Rattle.std.proofs.lemmas.List.{append-nil, append_assoc}
-use Rattle.usac_cfg.specs.declared.usac_config.UsacConfig.{UsacConfig}
-use Rattle.splicer.specs.Runs.{RunValue, new_run, fault, behind}
+use Rattle.splicer.specs.Runs.{RunValue, new_run, fault}
 use Rattle.core_iface.specs.Decoding.{Definitions}
 use Rattle.tool_text.specs.declared.refusal.Refusal.{Refusal}
 use Rattle.au_stream.specs.Frames.{Frame, config_of}
@@ -12,13 +11,12 @@ use Rattle.au_stream.specs.Script.{Mark, End, TooLarge, IsScript}
 use Rattle.au_stream.proofs.Marks.{one_script, same_frames}
 use Rattle.commands.specs.declared.outcome.Outcome.{Outcome}
 use Rattle.commands.specs.declared.outcome.Outcome.TheVariants as is
-use Rattle.commands.specs.Commands.{TakesAll, TakesEnd, units_over, work, feeds_none}
+use Rattle.commands.specs.Commands.{TakesAll, units_over}
 use Rattle.commands.specs.Ending.{Traces, IsRefused, Passes, Ends, WroteAll}
 use Rattle.playing.specs.Spliced.{coded}
 use Rattle.joining.specs.Renditions.{asked_at, run_at, BreaksRule}
 use Rattle.joining.specs.Planning.{planning}
 use Rattle.joining.specs.Events.{FileScript}
-use Rattle.joining.specs.SpliceEvents.{unless}
 use Rattle.joining.proofs.Events.{here_none, taken_none}
 use Rattle.joining.proofs.PlanSteps.{run_at_push}
 use Rattle.joining.proofs.SpliceEvents.{unless_none, unless_some}

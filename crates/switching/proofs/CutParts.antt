@@ -1,6 +1,6 @@
 -- What is given of one file, and the part that it is.
-use Rattle.std.proofs.Common.{◌≡◌, ℕ, ◌+◌, ◌-◌, ◌/◌, ◌≤◌, ◌<◌, List, [], ◌∷◌, ◌++◌, length, map, take, drop, Option, Some, None, refl, sym, ap, ◌∙◌, arith}
-use Rattle.std.specs.Prelude.{All, slice_range}
+use Rattle.std.proofs.Common.{◌≡◌, ℕ, ◌+◌, ◌-◌, ◌/◌, ◌≤◌, ◌<◌, List, [], ◌∷◌, length, map, take, Option, Some, None, refl, sym, ap, ◌∙◌, arith}
+use Rattle.std.specs.Prelude.{slice_range}
 use Rattle.std.proofs.lemmas.List.{length-drop, length-take-le}
 use Rattle.std.proofs.lemmas.List.Elements.{All-head, All-tail, All-cons, All-nil}
 use Rattle.std.proofs.Math.Nat.{mul-div_cancel}
@@ -9,7 +9,6 @@ use Rattle.usac_cfg.specs.declared.usac_config.UsacConfig.{UsacConfig}
 use Rattle.usac_cfg.specs.UsacConfig.{IsWellFormed, frame_length}
 use Rattle.timeline.specs.declared.piece.Piece.{Piece}
 use Rattle.plans.specs.Coded.{Coded}
-use Rattle.plans.specs.Parts.{Part}
 use Rattle.splicer.specs.declared.asked.Asked.{Asked}
 use Rattle.splicer.specs.declared.fault.SpliceFault.{SpliceFault}
 use Rattle.splicer.specs.Rules.{from_of}

@@ -19,7 +19,7 @@ use Rattle.plans.specs.WholeStream.{stream_config}
 use Rattle.splicer.specs.declared.asked.Asked.{Asked}
 use Rattle.splicer.specs.Laws.{GiveSoundPlans}
 use Rattle.splicer.specs.Pieces.{GivesPiece, GiveParts, part_of, asked, Rises}
-use Rattle.splicer.specs.Runs.{new_run, end}
+use Rattle.splicer.specs.Runs.{new_run}
 use Rattle.splicer.specs.SoFar.{part_up_to, cut_part, part_given}
 use Rattle.splicer.proofs.Later.{AreWell}
 use Rattle.splicer.proofs.Plans.{AllWell, rises_next, rises_later, well_config}
@@ -31,7 +31,7 @@ use Rattle.au_stream.specs.Script.{End}
 use Rattle.playing.specs.Spliced.{coded, plan_bytes}
 use Rattle.playing.proofs.Taking.{splice_bytes}
 use Rattle.joining.specs.Answers.{ArePlanned as FilesArePlanned}
-use Rattle.joining.specs.Renditions.{asked_at, run_at, next_place}
+use Rattle.joining.specs.Renditions.{asked_at, next_place}
 use Rattle.joining.specs.Events.{Marked, FileScript, Event, coded_of, file_event, order_event}
 use Rattle.joining.specs.SpliceEvents.{unless}
 use Rattle.joining.proofs.NoEvent.{file_gives, gives_none}
@@ -72,14 +72,14 @@ module _ (warm : UsacConfig → ℕ) where
     here =
         let v = new_run (asked_at at.piece) in
         let planned : ArePlanned warm at (file_unbroken warm (asked_at at.piece) s) = record {
-            rise = h.rise;
-            parts = h.parts;
-            fine = h.fine;
-            asks = h.asks;
-            earlier = h.earlier;
-            well = unbroken_fine warm v s.frames fine;
-            passes = unbroken_passes warm v s.frames;
-          } in
+          rise = h.rise;
+          parts = h.parts;
+          fine = h.fine;
+          asks = h.asks;
+          earlier = h.earlier;
+          well = unbroken_fine warm v s.frames fine;
+          passes = unbroken_passes warm v s.frames;
+        } in
         subst (λ (b : Asked). GoesOnSoundly h.parts at.earlier (file_given warm b s) (file_part warm b s)) same (so_far at (file_unbroken warm (asked_at at.piece) s) planned)
 
     -- nothing more is given
@@ -157,10 +157,10 @@ module _ (warm : UsacConfig → ℕ) where
       let next = next_there at.piece.place at.piece.positions x y ats comes in
       by_event at x (y ∷ ats) s comes h own (files_given warm (at.piece.place + 1) config (y ∷ ats) ss) (files_parts warm (at.piece.place + 1) config (y ∷ ats) ss)
       (λ none.
-          let after = behind at x (y ∷ ats) s comes h own none lt in
-          let later = walk (next_at at s.frames) (y ∷ ats) ss (next_comes at.piece x (y ∷ ats) s.frames comes) after (All-tail Fine s ss fine) in
-          follows at x (y ∷ ats) s comes h own none lt (files_given warm (at.piece.place + 1) config (y ∷ ats) ss) (files_parts warm (at.piece.place + 1) config (y ∷ ats) ss)
-          (subst (λ (k : ℕ). GoesOnSoundly after.parts (at.earlier ++ given_at at s.frames) (files_given warm k config (y ∷ ats) ss) (files_parts warm k config (y ∷ ats) ss)) next later))
+      let after = behind at x (y ∷ ats) s comes h own none lt in
+      let later = walk (next_at at s.frames) (y ∷ ats) ss (next_comes at.piece x (y ∷ ats) s.frames comes) after (All-tail Fine s ss fine) in
+      follows at x (y ∷ ats) s comes h own none lt (files_given warm (at.piece.place + 1) config (y ∷ ats) ss) (files_parts warm (at.piece.place + 1) config (y ∷ ats) ss)
+      (subst (λ (k : ℕ). GoesOnSoundly after.parts (at.earlier ++ given_at at s.frames) (files_given warm k config (y ∷ ats) ss) (files_parts warm k config (y ∷ ats) ss)) next later))
 
   -- ---- all files
 

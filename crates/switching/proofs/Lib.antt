@@ -8,5 +8,9 @@ pub mod CutParts
 pub mod CutPlans
 pub mod AsPlay
 pub mod AsPlan
+pub mod FileSteps
 pub mod SwitchTold
+pub mod CoreTold
+pub mod Fine
 pub mod SwitchAnswered
+pub mod SplicePlayed

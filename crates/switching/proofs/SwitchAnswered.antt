@@ -1,9 +1,9 @@
 -- What is answered to `switch`, from what was promised of the call.
-use Rattle.std.proofs.Common.{◌≡◌, ℕ, ◌+◌, ◌<◌, List, [], ◌∷◌, length, map, Option, Some, None, Result, Ok, Err, true, refl, sym, ap, subst, ◌∙◌, arith, ◌++◌, inl, inr}
+use Rattle.std.proofs.Common.{◌≡◌, ℕ, ◌<◌, List, [], ◌∷◌, length, Option, None, Result, Ok, Err, true, refl, sym, ap, subst, ◌∙◌, arith, ◌++◌, inl, inr}
 use Rattle.std.specs.Prelude.{◌≢◌, All}
 use Rattle.std.specs.Io.KnownBytes.{append_known}
-use Rattle.std.proofs.lemmas.List.Elements.{All-nil, All-cons, All-head, All-tail}
-use Rattle.usac_cfg.specs.UsacConfig.{IsWellFormed}
+use Rattle.std.proofs.lemmas.List.{append-nil}
+use Rattle.std.proofs.lemmas.List.Elements.{All-head, All-tail}
 use Rattle.timeline.specs.declared.fault.PlanFault.{PlanFault}
 use Rattle.timeline.specs.Order.{order_result}
 use Rattle.outside.specs.declared.shelf.Shelf
@@ -14,51 +14,35 @@ use Rattle.au_stream.specs.Frames.{Frame}
 use Rattle.au_stream.specs.Script.{HasFrames}
 use Rattle.commands.specs.declared.outcome.Outcome.{Outcome}
 use Rattle.commands.specs.declared.outcome.Outcome.TheVariants as is
-use Rattle.commands.specs.Calling.{Effect, Called, AreHeld}
-use Rattle.commands.specs.Commands.{units_over, work}
-use Rattle.commands.specs.Ending.{Traces, WroteAll, IsIdle}
-use Rattle.commands.specs.OnInputs.{ServesInputs, several, on_inputs}
-use Rattle.commands.specs.Ran.{Notes, Ran, CausesOf, status_of}
+use Rattle.commands.specs.Calling.{Called, AreHeld}
+use Rattle.commands.specs.Commands.{work}
+use Rattle.commands.specs.Ending.{Traces, WroteAll, WroteBefore}
+use Rattle.commands.specs.OnInputs.{ServesInputs, several}
+use Rattle.commands.specs.Ran.{Notes, Noted, Ran, CausesOf, IsMemory, Settles}
+use Rattle.commands.specs.Texts.{core_text}
 use Rattle.commands.specs.Worlds.{world, traces}
-use Rattle.commands.proofs.Rans.{told_status, read_outcome}
-use Rattle.playing.specs.FileAnswers.{WroteBytes}
-use Rattle.playing.specs.Playing.{playing, output, output_on, IsServed}
+use Rattle.commands.proofs.Rans.{told_status, read_outcome, core_outcome}
+use Rattle.playing.specs.Playing.{playing, output_on, IsServed}
 use Rattle.playing.proofs.FileAnswers.{IsNoFault, none_rose, calm_well}
 use Rattle.playing.specs.Spliced.{plan_bytes}
-use Rattle.playing.proofs.FineScripts.{script_fine}
-use Rattle.joining.specs.Renditions.{next_at as next_piece}
 use Rattle.joining.specs.Planning.{where_ordered}
-use Rattle.joining.specs.Events.{FileScript, or_event, order_event, first_event, files_event, coded_of, AreScripts}
+use Rattle.joining.specs.Events.{FileScript, Event, or_event, order_event, first_event, files_event, AreScripts}
 use Rattle.joining.specs.SpliceEvents.{unless}
 use Rattle.joining.specs.Answers.{ArePlanned, TellsEvent, IsDecided, AreCutShort, IsReadOn, NoEventIsAPlan}
 use Rattle.joining.proofs.Answered.{tells, refused_order, own_end, not_memory, settled, settled_read, decided_or_memory, held_long, all_held}
+use Rattle.joining.proofs.SpliceEvents.{unless_none}
 use Rattle.joining.proofs.Told.{Says, IsOwn}
-use Rattle.splicer.proofs.Later.{AreWell}
 use Rattle.switching.specs.CutShort.{files_given, all_given, plan_cut_short}
 use Rattle.switching.specs.PlayedPlan.{PlaysBeforeEvents}
-use Rattle.switching.specs.SwitchAnswers.{WrotePlan, TellsFirst, TellsRead, WroteWhole, AreServed, PlaysWell, SwitchesSoundly}
+use Rattle.switching.specs.SwitchAnswers.{WrotePlan, TellsFirst, TellsRead, TellsCore, with_frame, WroteWhole, AreServed, PlaysWell, SwitchesSoundly}
 use Rattle.switching.specs.Switching.{SwitchAt, switching, begins_at, next_at, switches_files}
 use Rattle.switching.proofs.AsPlay.{plays_none}
 use Rattle.switching.proofs.Calls.{switched}
+use Rattle.switching.proofs.CoreTold.{Failed, failed_core}
 use Rattle.switching.proofs.CutPlans.{AllFine}
+use Rattle.switching.proofs.Fine.{scripts_fine, cut_fine, reached_fine}
 use Rattle.switching.proofs.PlayedPlan.{first_comes, output_both}
 use Rattle.switching.proofs.SwitchTold.{walked, cut_short}
-
--- the frames of scripts of files are fine
-scripts_fine : (texts : List (List ℕ)) (ss : List FileScript) → AreScripts texts ss → AllFine ss
-scripts_fine [] [] are = All-nil (λ (s : FileScript). AreWell (coded_of s))
-scripts_fine [] (s ∷ ss) are = absurd are
-scripts_fine (text ∷ texts) [] are = absurd are
-scripts_fine (text ∷ texts) (s ∷ ss) are = All-cons (λ (x : FileScript). AreWell (coded_of x)) s ss (script_fine text s.frames are.0.0 are.0.2) (scripts_fine texts ss are.1)
-
-cut_fine : (texts taken : List (List ℕ)) (ss : List FileScript) → AreCutShort texts taken ss → AllFine ss
-cut_fine texts taken [] cut = All-nil (λ (s : FileScript). AreWell (coded_of s))
-cut_fine texts [] (s ∷ ss) cut = absurd cc
-cut_fine [] (front ∷ taken) (s ∷ ss) cut = absurd cut
-cut_fine (text ∷ texts) (front ∷ taken) (s ∷ ss) (inl cut) = All-cons (λ (x : FileScript). AreWell (coded_of x)) s ss (script_fine text s.frames cut.0.0 cut.0.2) (cut_fine texts taken ss cut.1)
-cut_fine (text ∷ texts) (front ∷ taken) (s ∷ ss) (inr cut) =
-    let Fine : FileScript → Type 0 = λ x. AreWell (coded_of x) in
-    subst (λ (xs : List FileScript). All Fine (s ∷ xs)) (sym cut.1) (All-cons Fine s [] (script_fine front s.frames cut.3.0 cut.3.1) (All-nil Fine))
 
 -- ---- the effect
 
@@ -91,6 +75,11 @@ module _ (d : Definitions) (positions : List ℕ) (texts taken : List (List ℕ)
       let w = cut_short d (begins_at positions) positions texts taken t (first_comes positions) long h in
       (w.0, w.1, subst IsReadOn (sym (with_order (Ok x) e w.0)) w.2.says, played_with (Ok x) e w.0 w.2.played)
 
+  -- a core that failed
+  core_failed : (q : Result (Unit {0}) PlanFault) → order_result positions ≡ q → (where_ordered q (switched d positions)).Does texts taken t is.CoreFault → length positions ≡ length texts → (order_event q ≡ None) × Failed d (begins_at positions) positions texts taken t
+  core_failed (Err fault) e h long = absurd h.2
+  core_failed (Ok x) e h long = (refl, failed_core d (begins_at positions) positions texts taken t (first_comes positions) long h)
+
   -- a frame within others
   served_at : (before later : List Frame) (f : Frame) → All (IsServed d) ((before ++ f ∷ []) ++ later) → IsServed d f
   served_at [] later f all = All-head (IsServed d) f later all
@@ -116,7 +105,35 @@ module _ (d : Definitions) (positions : List ℕ) (texts taken : List (List ℕ)
       let bytes : output_on d [] frames ≡ plan_bytes d (plan_cut_short d.warm positions ss) = sym (output_both d [] frames) ∙ plan.bytes in
       record { plan = plan; wrote = h.written ∙ ap (append_known t.written_before) bytes; fed = h.fed }
 
+  tells_core : PlaysBeforeEvents d → order_event (order_result positions) ≡ None → Failed d (begins_at positions) positions texts taken t → (n : Notes) → Noted n core_text → TellsCore d positions texts taken t n
+  tells_core plays rise h n noted =
+      let ordered : (ss : List FileScript) → all_given d.warm positions ss ≡ files_given d.warm 0 None positions ss = λ ss. unless_none (order_event (order_result positions)) (files_given d.warm 0 None positions ss) rise in
+      let with = with_frame h.scripts h.failed in
+      let event : first_event d.warm positions with ≡ files_event d.warm 0 None positions with = ap (λ (o : Option Event). or_event o (files_event d.warm 0 None positions with)) rise in
+      let given : all_given d.warm positions with ≡ all_given d.warm positions h.scripts ++ h.failed ∷ [] = ordered with ∙ (h.given ∙ ap (λ (gs : List Frame). gs ++ h.failed ∷ []) (sym (ordered h.scripts))) in
+      let plan = plays.cut positions h.scripts (reached_fine texts taken h.scripts h.failed h.reached) in
+      let wrote = subst (λ (gs : List Frame). WroteBefore (playing d []) gs h.failed t) (sym (ordered h.scripts)) h.wrote in
+      let frames = all_given d.warm positions h.scripts in
+      let bytes : output_on d [] frames ++ [] ≡ plan_bytes d (plan_cut_short d.warm positions h.scripts) = append-nil (output_on d [] frames) ∙ (sym (output_both d [] frames) ∙ plan.bytes) in
+      record {
+        scripts = h.scripts;
+        failed = h.failed;
+        reached = h.reached;
+        on = subst IsReadOn (sym event) h.on;
+        given = given;
+        plan = plan;
+        wrote = wrote.written ∙ ap (append_known t.written_before) bytes;
+        fed = wrote.fed;
+        less = let units = ap (λ (gs : List Frame). work (playing d []) gs) given in omega (arith, wrote.less, units);
+        noted = noted;
+      }
+
 -- ---- the answer
+
+settled_core : (a b : ℕ) (o ended : Outcome) → Settles a b o ended → ended ≡ is.CoreFault → o ≡ is.CoreFault
+settled_core a b o ended (inl (same, e)) h = sym e ∙ h
+settled_core a b o ended (inr (inl (not, rose, e))) h = absurd (let never : is.WriteFault ≡ is.CoreFault = sym e ∙ h in cc)
+settled_core a b o ended (inr (inr (same, m))) h = absurd (subst IsMemory h m)
 
 module _ {H K C : Type 0} (h : Shelf.Ghosts H) (k : Sink.Ghosts K) (g : Core.Ghosts C) (d : Definitions) (law : NoEventIsAPlan) (plays : PlaysBeforeEvents d) (positions : List ℕ) (names texts : List (List ℕ)) (s0 s1 : H) (o0 o1 : K) (c0 c1 : C) (n : Notes) (status : ℕ) where
   pub switches_soundly : (status < 8) × (status ≢ 2) → length positions ≡ length names → Ran k (switches_files d positions) names (world h k g s0 o0 c0) (λ sink. world h k g s1 sink c1) o1 n status
@@ -124,7 +141,7 @@ module _ {H K C : Type 0} (h : Shelf.Ghosts H) (k : Sink.Ghosts K) (g : Core.Gho
   switches_soundly few each ran causes held = record {
     taken = called.taken;
     from = called.from;
-    answers = record { decided = decided; read = read; planned = λ ss are. law d.warm positions texts ss are long; whole = whole };
+    answers = record { decided = decided; read = read; core = core; planned = λ ss are. law d.warm positions texts ss are long; whole = whole };
     complete = λ well. decided_or_memory status few.0 few.1 (no_fault well);
   }
     where
@@ -178,3 +195,10 @@ module _ {H K C : Type 0} (h : Shelf.Ghosts H) (k : Sink.Ghosts K) (g : Core.Gho
       no_fault (inl calm) = calm_well h k g (switches_files d positions) names texts s0 s1 o0 ran.behind o1 c0 c1 n status ran.outcome ended called ran.finished.flushed.settles ran.finished.flushed.calm_writes ran.finished.reported
           (all_held (h.bytes s0) names texts held) held (serves d positions texts called.taken t (order_result positions) calm.3) calm.0 calm.1 calm.2
       no_fault (inr none) = none_rose _ _ status none causes
+
+      core : status ≡ 5 → TellsCore d positions texts called.taken t n
+      core five =
+          let at_core = core_outcome n ended status ran.finished.reported five in
+          let o = settled_core _ _ ran.outcome ended ran.finished.flushed.settles at_core in
+          let x = core_failed d positions texts called.taken t (order_result positions) refl (does is.CoreFault o) long in
+          tells_core d positions texts called.taken t plays x.0 x.1 n (ran.finished.noted.core five)

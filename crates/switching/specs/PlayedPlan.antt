@@ -1,5 +1,5 @@
 -- What `switch` writes is the cut of a plan.
-use Rattle.std.specs.Prelude.{◌≡◌, ℕ, List, [], ◌∷◌, ◌++◌, map, All}
+use Rattle.std.specs.Prelude.{◌<◌, ◌≤◌, length, None, ◌≡◌, ℕ, List, [], ◌∷◌, ◌++◌, map, All}
 use Rattle.std.specs.List.Sorted.{IsStrictlyIncreasing}
 use Rattle.usac_cfg.specs.UsacConfig.{IsWellFormed}
 use Rattle.plans.specs.Coded.{Coded}
@@ -9,12 +9,15 @@ use Rattle.splicer.specs.Pieces.{AreTimedBy}
 use Rattle.splicer.specs.SoFar.{plan_so_far}
 use Rattle.core_iface.specs.Decoding.{Definitions}
 use Rattle.au_stream.specs.Frames.{Frame}
+use Rattle.au_stream.specs.Script.{End, most_bytes}
 use Rattle.commands.specs.Commands.{TakesAll, TakesEnd}
-use Rattle.playing.specs.Playing.{output}
+use Rattle.commands.specs.Ending.{Passes}
+use Rattle.playing.specs.Playing.{playing, output}
 use Rattle.playing.specs.Spliced.{coded, plan_bytes}
 use Rattle.joining.specs.Renditions.{asked_at}
 use Rattle.joining.specs.Answers.{ArePlanned as FilesArePlanned}
-use Rattle.joining.specs.Events.{FileScript, coded_of}
+use Rattle.joining.specs.Events.{FileScript, coded_of, first_event, AreScripts}
+use Rattle.joining.specs.SpliceEvents.{first_stop, splice_bytes}
 use Rattle.switching.specs.CutShort.{all_given, plan_cut_short}
 use Rattle.switching.specs.Switching.{SwitchAt, given_so_far, switching, begins_at, next_at}
 use Rattle.switching.specs.Standing.{ArePlanned}
@@ -69,3 +72,12 @@ AreFine scripts = All (λ s. All (λ f. IsWellFormed f.config) (coded_of s)) scr
 pub record PlaysBeforeEvents (d : Definitions) : Type 0 where
   pub cut : (positions : List ℕ) (scripts : List FileScript) → AreFine scripts → ArePlayedBy d (all_given d.warm positions scripts) (plan_cut_short d.warm positions scripts)
   pub whole : (positions : List ℕ) (scripts : List FileScript) → AreFine scripts → (plan : FilesArePlanned d.warm positions scripts) → plan_bytes d (plan_cut_short d.warm positions scripts) ≡ plan_bytes d plan.parts
+
+-- ---- the file that `splice` writes
+
+-- Where `splice` has no stop, and writes no more bytes than a file may have: these bytes are a file that `play` takes to its end, and its
+-- output is what `switch` writes of the files, which have no event.
+abbrev pub PlaysTheSplice : Definitions → Type 0
+PlaysTheSplice d = (positions : List ℕ) (texts : List (List ℕ)) (scripts : List FileScript) → AreScripts texts scripts → length positions ≡ length texts → 0 < length positions
+    → first_stop d.warm positions scripts ≡ None → length (splice_bytes d.warm positions scripts) ≤ most_bytes
+    → (first_event d.warm positions scripts ≡ None) × ((frames : List Frame) × Passes (playing d []) (splice_bytes d.warm positions scripts) frames End × (output d frames ≡ plan_bytes d (plan_cut_short d.warm positions scripts)))

@@ -1,7 +1,7 @@
 //! What `switch` writes.
 //!
 //! The functions run no code; their contracts are the theorems.
-ghost use Rattle.switching.specs.PlayedPlan.{PlaysBeforeEvents, PlaysSoFar, PlaysSoundPlans};
+ghost use Rattle.switching.specs.PlayedPlan.{PlaysBeforeEvents, PlaysSoFar, PlaysSoundPlans, PlaysTheSplice};
 
 use core_iface::Core;
 use switch_player::laws;
@@ -30,4 +30,14 @@ pub fn switch_plays_before_events<C: Core>()
 {
     laws::sound_splices_converge::<C>();
     splicer::laws::sound_plans_are_given();
+}
+
+/// Where `splice` joins the files, `switch` writes of them what `play` writes of the file that `splice` made, if a file may have so many
+/// bytes.
+pub fn switch_plays_the_splice<C: Core>()
+    ensures { PlaysTheSplice C.does }
+{
+    joining::laws::spliced_files_carry_the_splice();
+    playing::laws::play_takes_splices_alone::<C>();
+    switch_plays_before_events::<C>();
 }
