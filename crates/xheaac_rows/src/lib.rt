@@ -9,6 +9,8 @@ mod cases;
 #[cfg(test)]
 mod checks;
 #[cfg(test)]
+mod counted;
+#[cfg(test)]
 mod faults;
 #[cfg(test)]
 mod plan_rows;
@@ -25,5 +27,7 @@ mod splice_rows;
 mod starts;
 #[cfg(test)]
 mod streams;
+#[cfg(test)]
+mod switch_rows;
 
 pub use program::play_source;
