@@ -3,7 +3,7 @@ import os
 import sys
 import tempfile
 
-from running import DEMO, USAGE, changed_streams, check, differs, report, run
+from running import BUILT, DEMO, USAGE, changed_streams, check, differs, report, run
 
 sys.path.insert(0, DEMO)
 import expect
@@ -14,9 +14,13 @@ POSITIONS = (0, 1000, 1024, 2048, 4096, 6144, 8192, 49152)
 BEFORE, BEHIND = ("low", "high", "plain"), ("low", "high", "bare", "plain", "joined", "stereo", "cut", "empty", "carrying")
 
 
-def planned(words, folder=DEMO):
-    """What the other reader says of `plan` with these words, in a folder."""
-    return expect.answer("plan", *(word if at % 2 else os.path.join(folder, word) for at, word in enumerate(words)))
+def answered(command, words, folder=DEMO):
+    """What the other reader says of a command on pieces with these words, in a folder."""
+    return expect.answer(command, *(word if at % 2 else os.path.join(folder, word) for at, word in enumerate(words)))
+
+
+def planned(words):
+    return answered("plan", words)
 
 
 def check_plans():
@@ -62,15 +66,15 @@ def renditions():
     return [(name, first + 63 * (unit + carrying) + unit) for name, first in (("first.loas", opening), ("second.loas", other))]
 
 
-def check_joined_changes(name, position):
-    """The streams made of that one, each joined behind high.loas."""
+def check_joined_changes(command, name, position):
+    """A command on the streams made of that one, each joined behind high.loas."""
     why, count = None, 0
     with tempfile.TemporaryDirectory() as folder:
         words = [os.path.join(DEMO, "high.loas"), "0", "stream.loas", str(position)]
         for what, text in changed_streams(name):
             with open(os.path.join(folder, "stream.loas"), "wb") as file:
                 file.write(text)
-            found = differs(run(["plan", *words], folder=folder), planned(words, folder))
+            found = differs(run([command, *words], folder=folder, program=(BUILT,)), answered(command, words, folder))
             why = why or (found and f"{what}: {found}")
             count += 1
-    report(f"plan of {count} streams made of {name}, by demo/expect.py", why)
+    report(f"{command} of {count} streams made of {name}, by demo/expect.py", why)

@@ -12,6 +12,16 @@ import expect
 POSITIONS = (0, 1000, 2048, 4096, 6144, 8192)
 # of each of the first ones, each of the others joined behind it
 BEFORE, BEHIND = ("low", "high"), ("low", "high", "bare", "joined", "cut", "empty")
+# the words that are tried: pairs of files at these positions, and some more
+TRIED = [
+    *([f"{first}.loas", "0", f"{second}.loas", str(position)] for first in BEFORE for second in BEHIND for position in POSITIONS),
+    ["low.loas", "0", "high.loas", "4096", "low.loas", "6144"],
+    ["high.loas", "4096", "low.loas", "6144"],
+    ["low.loas", "4096"],
+    # other muxes, access units of up to 300 bytes, and a first frame with a preroll
+    *([f"{name}.loas", "0"] for name in ("slots", "other", "long", "stereo", "carrying", "changing")),
+    ["low.loas", "0", "missing.loas", "4096"],
+]
 
 
 def spliced(words):
@@ -35,24 +45,12 @@ def check_splice(words, folder):
 
 
 def check_splices():
-    """Pairs of files at some positions, and some more."""
-    pairs = [
-        [f"{first}.loas", "0", f"{second}.loas", str(position)] for first in BEFORE for second in BEHIND for position in POSITIONS
-    ]
-    more = [
-        ["low.loas", "0", "high.loas", "4096", "low.loas", "6144"],
-        ["high.loas", "4096", "low.loas", "6144"],
-        ["low.loas", "4096"],
-        # other muxes, access units of up to 300 bytes, and a first frame with a preroll
-        *([f"{name}.loas", "0"] for name in ("slots", "other", "long", "stereo", "carrying", "changing")),
-        ["low.loas", "0", "missing.loas", "4096"],
-    ]
     why = None
     with tempfile.TemporaryDirectory() as folder:
-        for words in [*pairs, *more]:
+        for words in TRIED:
             found = check_splice(words, folder)
             why = why or (found and f"{words}: {found}")
-    report(f"{len(pairs) + len(more)} splices, by demo/expect.py; check and play of what they write", why)
+    report(f"{len(TRIED)} splices, by demo/expect.py; check and play of what they write", why)
 
 
 def check_splice_faults():

@@ -1,9 +1,9 @@
 #!/usr/bin/env python3
-"""Says what `xheaac show FILE`, `xheaac check FILE`, `xheaac play FILE`, `xheaac start FILE FRAME`, `xheaac plan FILE POS [FILE POS]...`
-and `xheaac splice FILE POS [FILE POS]...` are to do, by a reader of its own: expect.py with the same words writes the same bytes and the
+"""Says what `xheaac show FILE`, `xheaac check FILE`, `xheaac play FILE`, `xheaac start FILE FRAME`, and `xheaac plan FILE POS [FILE POS]...`,
+`splice` and `switch` with the same words, are to do, by a reader of its own: expect.py with the same words writes the same bytes and the
 same note, and ends with the same status. It shares no code with the program. It reads a stream in any mux of one program and one layer,
 says at which bit or byte it is at fault, judges its prerolls, plays it by the rules of a player and of the example core, judges whether
-pieces can be joined, and joins them."""
+pieces can be joined, joins them, and plays them as they stand."""
 import struct
 import sys
 
@@ -136,6 +136,26 @@ class Start(Play):
         return b""
 
 
+class Switched(Piece):
+    """A piece whose frames are played as they are judged. One player goes on through all pieces: at the first frame of each it begins
+    anew with what that frame carries."""
+
+    def __init__(self, player, *place):
+        super().__init__(*place)
+        self.player = player
+
+    def write(self, frame):
+        at = frame.number * self.usac.samples
+        if at < self.position or self.until is not None and at >= self.until:
+            return b""
+        unit = read_unit(frame)
+        block = self.player.begin(self.usac, unit) if at == self.position else self.player.core.step(unit)
+        return struct.pack(f"<{len(block)}h", *block)
+
+    def close(self, first, last):
+        return b""
+
+
 def preroll_lines(payload):
     try:
         return list(PreRoll(payload).shown())
@@ -201,7 +221,7 @@ def run(command, octets):
 
 
 COMMANDS = {"check": Check, "play": Play, "show": Show, "start": Start}
-ON_PIECES = {"plan": Piece, "splice": Handed}
+ON_PIECES = {"plan": Piece, "splice": Handed, "switch": Switched}
 
 
 def expected(word, octets, *numbers):
@@ -214,11 +234,21 @@ def read(name):
         return file.read()
 
 
+def pieces(word, positions):
+    """What makes the pieces of a command, at these positions."""
+    if word != "switch":
+        return ON_PIECES[word]
+    player = Play()
+    player.is_within = positions[0] > 0
+    return lambda *place: Switched(player, *place)
+
+
 def answer(word, *words):
     """What the command with these words writes, notes and ends with."""
     if word in ON_PIECES:
         files = [lambda name=name: read(name) for name in words[::2]]
-        return on_pieces(ON_PIECES[word], files, [int(position) for position in words[1::2]])
+        positions = [int(position) for position in words[1::2]]
+        return on_pieces(pieces(word, positions), files, positions)
     return expected(word, read(words[0]), *map(int, words[1:]))
 
 
