@@ -10,19 +10,6 @@ pub struct CountedShelf<H> {
     pub taken: u64,
 }
 
-impl<H: Shelf> CountedShelf<H> {
-    // That shelf, of which nothing was asked.
-    pub fn new(shelf: H) -> CountedShelf<H>
-        ensures { result.shelf ≡ shelf }
-    {
-        CountedShelf {
-            shelf,
-            begun: 0,
-            taken: 0,
-        }
-    }
-}
-
 impl<H: Shelf> Shelf for CountedShelf<H> {
     ghost tells = { λ s. H.tells s.shelf };
 

@@ -47,8 +47,6 @@ const LAST: &[&str] = &[
     "56E00380800056E003808000",
 ];
 
-const NO_BLOCKS: &[Block] = &[];
-
 // The first four of `EIGHT`, all of them, and the last four of `IMMEDIATE`.
 const FOUR: &[Block] = &[Ramp(1), Ramp(7), Ramp(28), Ramp(40)];
 
@@ -64,6 +62,18 @@ const ALL_EIGHT: &[Block] = &[
 ];
 
 const TAIL: &[Block] = &[Ramp(15), Ramp(20), Ramp(74), Ramp(239)];
+
+// What is written where the joining frame asks for a fade.
+const FADED: &[Block] = &[
+    Ramp(1),
+    Ramp(7),
+    Ramp(28),
+    Ramp(40),
+    Fade(8, 15),
+    Ramp(20),
+    Ramp(74),
+    Ramp(239),
+];
 
 const SWITCHED: &[Switched] = &[
     (
@@ -99,57 +109,34 @@ const SWITCHED: &[Switched] = &[
     (&["switch", "in", "4096"], FADING, &[], TAIL, 5, ""),
 ];
 
-// What is written where the joining frame asks for a fade.
-const FADED: &[Block] = &[
-    Ramp(1),
-    Ramp(7),
-    Ramp(28),
-    Ramp(40),
-    Fade(8, 15),
-    Ramp(20),
-    Ramp(74),
-    Ramp(239),
+// A second file that is refused where it is joined, or before, and the note; the four frames before the join are written.
+type Unsound = (&'static [&'static str], &'static str);
+
+const UNSOUND: &[Unsound] = &[
+    (
+        CARRIES_ONE,
+        "refused: piece 1: frame 2: too few units: 1 of 2\n",
+    ),
+    (BARE, "refused: piece 1: frame 4: no preroll\n"),
+    (EIGHT, "refused: piece 1: frame 4: same configuration\n"),
+    // it carries 83, and 81 stands before it
+    (
+        &[OWN, "56E01187E0C81908E600C72000201000183C0000", BEHIND],
+        "refused: piece 1: frame 4: foreign preroll unit 0\n",
+    ),
+    // usacSamplingFrequencyIndex 4
+    (
+        &["56E00F2000F94624211CC018E400043FC000"],
+        "refused: piece 1: rate differs\n",
+    ),
 ];
 
 const REFUSED: &[Switched] = &[
     (
-        AT_4096,
-        EIGHT,
-        CARRIES_ONE,
-        FOUR,
-        4,
-        "refused: piece 1: frame 2: too few units: 1 of 2\n",
-    ),
-    (
-        AT_4096,
-        EIGHT,
-        BARE,
-        FOUR,
-        4,
-        "refused: piece 1: frame 4: no preroll\n",
-    ),
-    (
-        AT_4096,
-        EIGHT,
-        EIGHT,
-        FOUR,
-        4,
-        "refused: piece 1: frame 4: same configuration\n",
-    ),
-    // it carries 83, and 81 stands before it
-    (
-        AT_4096,
-        EIGHT,
-        &[OWN, "56E01187E0C81908E600C72000201000183C0000", BEHIND],
-        FOUR,
-        4,
-        "refused: piece 1: frame 4: foreign preroll unit 0\n",
-    ),
-    (
         &["switch", "in", "0", "more", "4000"],
         EIGHT,
         IMMEDIATE,
-        NO_BLOCKS,
+        &[],
         0,
         "refused: piece 0: no frame at 4000\n",
     ),
@@ -165,18 +152,9 @@ const REFUSED: &[Switched] = &[
         &["switch", "none", "4096", "none", "4096"],
         &[],
         &[],
-        NO_BLOCKS,
+        &[],
         0,
         "refused: piece 1: positions do not rise\n",
-    ),
-    // usacSamplingFrequencyIndex 4
-    (
-        AT_4096,
-        EIGHT,
-        &["56E00F2000F94624211CC018E400043FC000"],
-        FOUR,
-        4,
-        "refused: piece 1: rate differs\n",
     ),
     // what stands behind a piece is read too
     (
@@ -195,17 +173,6 @@ const REFUSED: &[Switched] = &[
         4,
         "refused: piece 0: byte 61: sync lost\n",
     ),
-    // the shelf does not hold the second file; it is begun when its turn comes
-    (
-        &["switch", "in", "0", "none", "4096"],
-        EIGHT,
-        &[],
-        FOUR,
-        4,
-        "read fault\n",
-    ),
-    (&["switch"], EIGHT, &[], NO_BLOCKS, 0, USAGE),
-    (&["switch", "in"], EIGHT, &[], NO_BLOCKS, 0, USAGE),
     // the second file is at fault behind the joining frame
     (
         AT_4096,
@@ -215,6 +182,17 @@ const REFUSED: &[Switched] = &[
         6,
         "refused: piece 1: byte 57: truncated\n",
     ),
+    // the shelf does not hold the second file; it is begun when its turn comes
+    (
+        &["switch", "in", "0", "none", "4096"],
+        EIGHT,
+        &[],
+        FOUR,
+        4,
+        "read fault\n",
+    ),
+    (&["switch"], EIGHT, &[], &[], 0, USAGE),
+    (&["switch", "in"], EIGHT, &[], &[], 0, USAGE),
 ];
 
 // The number of the read that fails, that of the write, how many blocks of `FADED` are written, how many units are fed, and the
@@ -301,7 +279,7 @@ const COUNTED: &[Counted] = &[
         211,
     ),
     // the first frame is written before more than its 19 bytes are taken
-    (AT_4096, 1, NO_BLOCKS, 1, "write fault\n", 4, 1, 19),
+    (AT_4096, 1, &[], 1, "write fault\n", 4, 1, 19),
 ];
 
 // The sample of a block at a time.
@@ -379,7 +357,11 @@ fn check_counted(rt: &(impl Abort + AllocGlobal), counted: &Counted) -> Result<(
     shelf.add("in", &joined(alloc, EIGHT)?)?;
     shelf.add("more", &joined(alloc, FADING)?)?;
     shelf.add("last", &joined(alloc, LAST)?)?;
-    let mut shelf = CountedShelf::new(shelf);
+    let mut shelf = CountedShelf {
+        shelf,
+        begun: 0,
+        taken: 0,
+    };
     let mut out = MemSink::new(alloc, 1, &[*write])?;
     let mut note = MemSink::new(alloc, 1, &[])?;
     let mut core = FoldCore::new();
@@ -407,6 +389,10 @@ fn switches_renditions(rt: HostRuntime) -> Result<(), Fail> {
             let row = switching(words, file, more, note, *fed);
             check_both(&rt, &row, &bytes_of_blocks(alloc, blocks)?)?;
         }
+    }
+    for (more, note) in UNSOUND {
+        let row = switching(AT_4096, EIGHT, more, note, 4);
+        check_both(&rt, &row, &bytes_of_blocks(alloc, FOUR)?)?;
     }
     for counted in COUNTED {
         check_counted(&rt, counted)?;
