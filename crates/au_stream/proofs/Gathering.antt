@@ -1,11 +1,11 @@
 -- The elements of a source that is read whole, from one to the next.
-use Rattle.std.proofs.Common.{◌≡◌, ℕ, zero, suc, ◌+◌, ◌-◌, ◌≤◌, true, false, List, [], ◌∷◌, ◌++◌, length, take, drop, Option, Some, None, Ok, Err, refl, sym, ap, subst, ◌∙◌, append_assoc, append-nil, arith, inl, inr}
+use Rattle.std.proofs.Common.{◌≡◌, ℕ, zero, suc, ◌+◌, ◌-◌, ◌*◌, ◌≤◌, Bool, true, false, List, [], ◌∷◌, ◌++◌, length, take, drop, Option, Some, None, Ok, Err, refl, sym, ap, subst, ◌∙◌, append_assoc, append-nil, arith, inl, inr}
 use Rattle.std.specs.Prelude.{is_some, slice_get}
 use Rattle.std.specs.Io.KnownBytes.{prepend_known}
 use Rattle.std.proofs.lemmas.List.{length-append, length-drop, length-take, take-append-drop}
 use Rattle.layout.specs.Text.{bits_of}
 use Rattle.causes.specs.Counts.{Rose}
-use Rattle.loas.specs.Framing.{IsPartial, BeginsWithFrame}
+use Rattle.loas.specs.Framing.{IsFrameBody, IsPartial, BeginsWithFrame}
 use Rattle.loas.specs.Framer.{Framer, grown, pushed, past_frame}
 use Rattle.loas.specs.declared.fault.LoasFault.TheVariants as loas
 use Rattle.loas.proofs.Given.{begins-fits}
@@ -16,7 +16,9 @@ use Rattle.latm.specs.declared.mux_config.MuxConfig.{MuxConfig}
 use Rattle.latm.specs.declared.mux_element.MuxElement.{MuxElement}
 use Rattle.latm.specs.declared.stream.Stream.{Stream}
 use Rattle.latm.specs.MuxElement.{element, then_in_force}
-use Rattle.latm.specs.Stream.{AreElements, IsWellFormed}
+use Rattle.latm.specs.Stream.{IsElementOf, AreElements, IsWellFormed}
+use Rattle.latm.specs.Written.{element_text}
+use Rattle.layout.proofs.TextLemmas.{length-bits_of}
 use Rattle.au_stream.specs.declared.fault.StreamFault.{StreamFault}
 use Rattle.au_stream.specs.declared.fault.StreamFault.TheVariants.{ReadFault, TooLarge, Loas, Mux, Memory}
 use Rattle.au_stream.specs.Elements.{IsElement, Carries, in_force_behind}
@@ -77,10 +79,16 @@ frames-added es e body is =
     let long : length own ≡ length e.slots = ap (λ (o : Option MuxConfig). length (frames_under o (is_some e.config) e.slots)) m.1 ∙ length-frames_under m.0 (is_some e.config) e.slots in
     ap (λ (fs : List Frame). length fs) (frames-push None es e) ∙ length-append (frames_from None es) own ∙ ap (λ (n : ℕ). length (frames_from None es) + n) long
 
+-- an element that bytes spell makes whole bytes
+element_of : (before : Option MuxConfig) (e : MuxElement) (body : List ℕ) → IsFrameBody body → IsElement before e body → IsElementOf before e
+element_of before e body few is =
+    let long : 8 * length body ≡ length (element_text e) = sym (length-bits_of body) ∙ ap (λ (t : List Bool). length t) is.spelled in
+    record { fits = is.fits; whole = omega (arith, long); few = omega (arith, long, few) }
+
 -- each element is one
 carries_are : (before : Option MuxConfig) (text : List ℕ) (es : List MuxElement) (rest : List ℕ) → Carries before text es rest → AreElements before es
 carries_are before text [] rest c = tt
-carries_are before text (e ∷ es) rest c = (c.4.fits, carries_are (then_in_force before e.config) c.1 es rest c.5)
+carries_are before text (e ∷ es) rest c = (element_of before e c.0 c.2 c.4, carries_are (then_in_force before e.config) c.1 es rest c.5)
 
 pub well_formed : (text : List ℕ) (stream : Stream) (rest : List ℕ) → Carries None text stream.elements rest → length text ≤ most_bytes → IsWellFormed stream
 well_formed text stream rest c le = record {

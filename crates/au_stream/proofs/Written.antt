@@ -130,7 +130,7 @@ all_carried : (before : Option MuxConfig) (es : List MuxElement) (text : List �
 all_carried before [] text are w = w
 all_carried before (e ∷ es) text are w =
     let h = has_body (element_text e) w.0 w.2.bytes w.2.frames in
-    (h.body, w.1, h.fits, w.3 ∙ ap (λ (t : List ℕ). t ++ w.1) h.is, record { fits = are.0; spelled = h.spelled }, all_carried (then_in_force before e.config) es w.1 are.1 w.4)
+    (h.body, w.1, h.fits, w.3 ∙ ap (λ (t : List ℕ). t ++ w.1) h.is, record { fits = are.0.fits; spelled = h.spelled }, all_carried (then_in_force before e.config) es w.1 are.1 w.4)
 
 pub stream_back : (stream : Stream) (text : List ℕ) → IsWellFormed stream → AreWritten stream.elements text → length text ≤ most_bytes → IsStream text stream
 stream_back stream text well w le =

@@ -70,6 +70,10 @@ element before = shaped
     (λ (config, (slots, (other, tail))). record { config = config; slots = slots; other = other; tail = tail })
     (both (opening (is_some before)) (λ own. body (then_in_force before own)))
 
+-- an element with other slots
+abbrev pub with_slots : List (List ℕ) → MuxElement → MuxElement
+with_slots slots e = record { config = e.config; slots = slots; other = e.other; tail = e.tail }
+
 -- Whatever is in force, two elements with one spelling are the same.
 abbrev pub IsSpelledOnce : Type 0
 IsSpelledOnce = (before : Option MuxConfig) → SpellsOnce (element before)

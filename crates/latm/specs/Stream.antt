@@ -1,10 +1,11 @@
 -- The frames of a stream (ISO/IEC 14496-3, AudioMuxElement): its slots in their order, each with the UsacConfig in force.
-use Rattle.std.specs.Prelude.{ℕ, ◌^◌, ◌<◌, List, [], ◌∷◌, ◌++◌, length, map, Option, None, Some}
+use Rattle.std.specs.Prelude.{◌≡◌, ℕ, ◌^◌, ◌%◌, ◌<◌, ◌≤◌, List, [], ◌∷◌, ◌++◌, length, map, Option, None, Some}
 use Rattle.usac_cfg.specs.declared.usac_config.UsacConfig.{UsacConfig}
 use Rattle.latm.specs.declared.mux_config.MuxConfig.{MuxConfig}
 use Rattle.latm.specs.declared.mux_element.MuxElement.{MuxElement}
 use Rattle.latm.specs.declared.stream.Stream.{Stream}
 use Rattle.latm.specs.MuxElement.{element, then_in_force}
+use Rattle.latm.specs.Written.{element_text}
 
 -- the frames of slots where a configuration is in force, or nothing
 abbrev pub slots_under : Option MuxConfig → List (List ℕ) → List (UsacConfig × List ℕ)
@@ -19,10 +20,16 @@ slots_from before (e ∷ es) = slots_under (then_in_force before e.config) e.slo
 abbrev pub frames_of : Stream → List (UsacConfig × List ℕ)
 frames_of s = slots_from None s.elements
 
+-- It is an element under the configuration in force before it; and it makes whole bytes, of which a LOAS frame counts 8191 at most.
+pub record IsElementOf (before : Option MuxConfig) (e : MuxElement) : Type 0 where
+  pub fits : (let L = element before in L.Fits e)
+  pub whole : length (element_text e) % 8 ≡ 0
+  pub few : length (element_text e) ≤ 65528
+
 -- each element is one under the configuration that those before it leave in force
 abbrev pub AreElements : Option MuxConfig → List MuxElement → Type 0
 AreElements before [] = Unit {0}
-AreElements before (e ∷ es) = (let L = element before in L.Fits e) × AreElements (then_in_force before e.config) es
+AreElements before (e ∷ es) = IsElementOf before e × AreElements (then_in_force before e.config) es
 
 pub record IsWellFormed (s : Stream) : Type 0 where
   pub elements : AreElements None s.elements

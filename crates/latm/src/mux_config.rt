@@ -1,4 +1,4 @@
-ghost use Rattle.std.specs.Prelude.{◌≡◌, ◌++◌, OnOk, OnErr};
+ghost use Rattle.std.specs.Prelude.{◌≡◌, ◌++◌, IfOk, OnOk, OnErr};
 ghost use Rattle.layout.specs.Reading.{GivesUnless, ReadsUnless};
 
 use crate::fault::MuxFault;
@@ -94,5 +94,22 @@ impl MuxConfig {
                 Err(fault)
             }
         }
+    }
+
+    /// A copy. The one error is out of memory.
+    pub fn copy(&self, alloc: Global) -> Result<MuxConfig, AllocError>
+        ensures { IfOk result (λ copied. copied ≡ self.now) }
+    {
+        let asc = self.asc.copy(alloc)?;
+        Ok(MuxConfig {
+            version: self.version,
+            tara: self.tara,
+            sub_frames: self.sub_frames,
+            asc_length: self.asc_length,
+            asc,
+            fullness: self.fullness,
+            other: self.other,
+            crc: self.crc,
+        })
     }
 }

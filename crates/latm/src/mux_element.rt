@@ -1,15 +1,15 @@
-ghost use Rattle.std.specs.Prelude.{◌≡◌, ◌≤◌, length};
+ghost use Rattle.std.specs.Prelude.{◌≡◌, ◌≤◌, length, IfOk};
 ghost use Rattle.std.specs.Option.{option_copied};
 ghost use Rattle.layout.specs.Text.{bits_of};
 ghost use Rattle.layout.specs.Reading.{ReadsText};
 ghost use Rattle.latm.specs.Faults.{is_memory};
-ghost use Rattle.latm.specs.MuxElement.{element};
+ghost use Rattle.latm.specs.MuxElement.{with_slots, element};
 
 use crate::element_reading::read_fields;
 use crate::fault::MuxFault;
 use crate::mux_config::MuxConfig;
 use bit_core::{BitReader, Bits, Items, Octets};
-use std::alloc::Global;
+use std::alloc::{AllocError, Global};
 
 /// The slots of an element, in their order: one access unit each.
 pub type Slots = Items<Octets>;
@@ -37,6 +37,36 @@ pub struct MuxElement {
     pub other: Bits,
     /// All bits behind the other data, whatever their value.
     pub tail: Bits,
+}
+
+/// A copy of an element's configuration, where it has one.
+fn copied(alloc: Global, config: &Option<MuxConfig>) -> Result<Option<MuxConfig>, AllocError>
+    ensures { IfOk result (λ copied. copied ≡ config.now) }
+{
+    match config {
+        None => Ok(None),
+        Some(config) => {
+            let copied = config.copy(alloc)?;
+            Ok(Some(copied))
+        }
+    }
+}
+
+impl MuxElement {
+    /// A copy with other slots. The one error is out of memory.
+    pub fn with_slots(&self, alloc: Global, slots: Slots) -> Result<MuxElement, AllocError>
+        ensures { IfOk result (λ changed. changed ≡ with_slots slots self.now) }
+    {
+        let config = copied(alloc, &self.config)?;
+        let other = self.other.copy(alloc)?;
+        let tail = self.tail.copy(alloc)?;
+        Ok(MuxElement {
+            config,
+            slots,
+            other,
+            tail,
+        })
+    }
 }
 
 /// Reads the bytes of an element, at most 16,777,216, under the configuration that is in force before it, where there is

@@ -13,7 +13,8 @@ pub type MuxElements = Items<MuxElement>;
 /// A stream: elements, each under the configuration that the elements before it leave in force.
 ///
 /// Its frames are the slots of the elements, in their order, each with the UsacConfig in force (ISO/IEC 23003-3). Well formed
-/// where each element is one under that configuration, and there are at most 2^32 - 1 frames.
+/// where each element is one under that configuration and makes whole bytes, at most 8191, and there are at most 2^32 - 1
+/// frames.
 #[derive(Debug, Drop)]
 pub struct Stream {
     pub elements: MuxElements,
