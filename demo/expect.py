@@ -1,12 +1,13 @@
 #!/usr/bin/env python3
-"""Says what `xheaac show FILE`, `xheaac check FILE`, `xheaac play FILE`, `xheaac start FILE FRAME`, and `xheaac plan FILE POS [FILE POS]...`,
-`splice` and `switch` with the same words, are to do, by a reader of its own: expect.py with the same words writes the same bytes and the
+"""Says what `xheaac show FILE`, `xheaac check FILE`, `xheaac play FILE`, `xheaac start FILE FRAME`, `xheaac plan FILE POS [FILE POS]...`,
+`splice` and `switch` with the same words, and `xheaac insert FILE K FADE TARGETS` are to do, by a reader of its own: expect.py with the same words writes the same bytes and the
 same note, and ends with the same status. It shares no code with the program. It reads a stream in any mux of one program and one layer,
 says at which bit or byte it is at fault, judges its prerolls, plays it by the rules of a player and of the example core, judges whether
-pieces can be joined, joins them, and plays them as they stand."""
+pieces can be joined, joins them, plays them as they stand, and inserts prerolls."""
 import struct
 import sys
 
+from inserts import inserted
 from layouts import Fault, PreRoll
 from plans import Piece, on_pieces
 from splices import Handed
@@ -245,6 +246,8 @@ def pieces(word, positions):
 
 def answer(word, *words):
     """What the command with these words writes, notes and ends with."""
+    if word == "insert":
+        return inserted(read(words[0]), *words[1:])
     if word in ON_PIECES:
         files = [lambda name=name: read(name) for name in words[::2]]
         positions = [int(position) for position in words[1::2]]

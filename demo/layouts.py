@@ -289,17 +289,20 @@ class Mux:
         yield from self.asc.shown()
 
 
-def read_element(octets, in_force):
-    """AudioMuxElement: the mux that it has, if any, and the bits of each access unit."""
-    text = Text("".join(f"{octet:08b}" for octet in octets), "mux too short")
-    goes_on = text.number(1)  # useSameStreamMux
-    if goes_on and in_force is None:
-        raise Fault(0, "no configuration")
-    opening = None if goes_on else Mux(text)
-    mux = opening or in_force
-    slots = [text.run(8 * text.slot_length()) for _ in range(mux.slots)]
-    text.run(mux.other or 0)
-    return opening, slots
+class Element:
+    """AudioMuxElement: the mux that it opens with, if any; the bits before its slots, those of each access unit, and those behind them."""
+
+    def __init__(self, octets, in_force):
+        text = Text("".join(f"{octet:08b}" for octet in octets), "mux too short")
+        goes_on = text.number(1)  # useSameStreamMux
+        if goes_on and in_force is None:
+            raise Fault(0, "no configuration")
+        self.opening = None if goes_on else Mux(text)
+        self.mux = self.opening or in_force
+        self.front = text.bits[: text.at]
+        self.slots = [text.run(8 * text.slot_length()) for _ in range(self.mux.slots)]
+        self.behind = text.bits[text.at :]
+        text.run(self.mux.other or 0)
 
 
 class Part:

@@ -14,11 +14,16 @@ def mux_bits(specific):
     return opening + specific + 3 * "0" + 8 * "1" + "0" + "0"
 
 
+def slot_bits(unit):
+    """MuxSlotLengthBytes, and the bits of an access unit."""
+    octets = len(unit) // 8
+    return octets // 255 * (8 * "1") + f"{octets % 255:08b}" + unit
+
+
 def canonical(specific, unit):
     """The LOAS frame of an access unit, with a mux where the bits of an AudioSpecificConfig are given."""
     bits = "1" if specific is None else "0" + mux_bits(specific)  # useSameStreamMux
-    octets = len(unit) // 8
-    bits += octets // 255 * (8 * "1") + f"{octets % 255:08b}" + unit  # MuxSlotLengthBytes
+    bits += slot_bits(unit)
     element = packed(bits + -len(bits) % 8 * "0")
     if len(element) > MOST_ELEMENT:
         raise Broken("too long")

@@ -1,6 +1,6 @@
 """Reads streams: their frames, where they are at fault, and what their prerolls carry. It is the part of expect.py that knows no
 commands."""
-from layouts import Configuration, Fault, PreRoll, Text, Unit, read_element
+from layouts import Configuration, Element, Fault, PreRoll, Text, Unit
 
 MOST_BYTES = 268_435_456
 # by sbrRatioIndex: how many units the example core takes to warm up
@@ -43,23 +43,32 @@ class Frame:
         self.is_changed, self.unit = is_changed, unit
 
 
-def frames_of(octets):
-    """The frames of a stream, one after another. Where it is at fault, the next one ends the command."""
+def elements_of(octets):
+    """The elements of a stream, each with the number of its first frame. Where the stream is at fault, the next one ends the command."""
     counted = octets[:MOST_BYTES]
     at, number, mux = 0, 0, None
     while at < len(counted):
         body, at = read_body(counted, at, len(octets) == len(counted))
         try:
-            opening, slots = read_element(body, mux)
+            element = Element(body, mux)
         except Fault as fault:
             raise refused(f"frame {number} bit {fault.bit}", fault.reason) from fault
-        is_changed = opening is not None and (mux is None or mux.asc.usac.spelling != opening.asc.usac.spelling)
-        mux = opening or mux
-        for place, unit in enumerate(slots):
-            yield Frame(number, None if place else opening, mux, is_changed and place == 0, unit)
-            number += 1
+        yield number, element
+        mux = element.mux
+        number += len(element.slots)
     if len(octets) > len(counted):
         raise Stop("too large\n", 7)
+
+
+def frames_of(octets):
+    """The frames of a stream, one after another, in the same way."""
+    before = None
+    for number, element in elements_of(octets):
+        spelling = element.mux.asc.usac.spelling
+        is_changed = spelling != before
+        before = spelling
+        for place, unit in enumerate(element.slots):
+            yield Frame(number + place, None if place else element.opening, element.mux, is_changed and place == 0, unit)
 
 
 def read_unit(frame):
