@@ -1,0 +1,5 @@
+pub mod Frames
+pub mod Clean
+pub mod Payload
+pub mod Slot
+pub mod Laws
