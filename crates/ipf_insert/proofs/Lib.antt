@@ -1,0 +1,4 @@
+pub mod Elements
+pub mod Frames
+pub mod Targets
+pub mod Seeking
