@@ -1,5 +1,5 @@
 // The elements of a stream with its targets inserted.
-ghost use Rattle.std.specs.Prelude.{◌≡◌, ◌<◌, ◌≤◌, ℕ, List, length, IfOk};
+ghost use Rattle.std.specs.Prelude.{◌≡◌, ◌+◌, ◌<◌, ◌≤◌, length, IfOk};
 ghost use Rattle.ipf_frame.specs.Slot.{new_slot};
 ghost use Rattle.ipf_insert.specs.Inserting.{units_before, payload_at, is_target, slot_in, slots_in, element_in};
 ghost use Rattle.ipf_insert.specs.Rules.{au_at};
@@ -122,5 +122,23 @@ pub fn changed(
     ensures { IfOk result (λ new. new ≡ element_in (settled sources.now) targets.now first element.now) }
 {
     let slots = slots_in(alloc, sources, targets, first, element.slots.as_slice())?;
+    element.with_slots(alloc, slots)
+}
+
+fn copied_slots(alloc: Global, slots: &[Octets]) -> Result<Slots, AllocError>
+    ensures { IfOk result (λ copied. copied ≡ slots.now) }
+{
+    let mut copied = Slots::new(alloc);
+    for slot in slots {
+        copied.push(slot.copy(alloc)?)?;
+    }
+    Ok(copied)
+}
+
+/// A copy of an element.
+pub fn copied(alloc: Global, element: &MuxElement) -> Result<MuxElement, AllocError>
+    ensures { IfOk result (λ copied. copied ≡ element.now) }
+{
+    let slots = copied_slots(alloc, element.slots.as_slice())?;
     element.with_slots(alloc, slots)
 }

@@ -1,9 +1,10 @@
 // The frames of a stream: all of one configuration, and each access unit a frame.
-ghost use Rattle.std.specs.Prelude.{◌≡◌, ◌≤◌, ℕ, List, length, map, option_copied};
+ghost use Rattle.std.specs.Prelude.{◌≡◌, ◌≤◌, ◌++◌, [], ◌∷◌, length, map, OnOk};
+ghost use Rattle.std.specs.Option.{option_copied};
 ghost use Rattle.layout.specs.Layout.{FitsOption};
 ghost use Rattle.usac_cfg.specs.declared.usac_config.UsacConfig.{UsacConfig as ConfigValue};
 ghost use Rattle.usac_cfg.specs.UsacConfig.{IsWellFormed as IsConfig};
-ghost use Rattle.usac_cfg.specs.Same.{same};
+ghost use Rattle.usac_cfg.specs.Same.{same as same_config};
 ghost use Rattle.latm.specs.MuxConfig.{IsWellFormed as IsMux};
 ghost use Rattle.latm.specs.Stream.{IsWellFormed, slots_under, frames_of, au_in};
 ghost use Rattle.ipf_insert.specs.Rules.{frame_rule, frames_rule};
@@ -12,7 +13,7 @@ ghost use Rattle.ipf_insert.specs.Steps.{Passes, Judges, Gathers, AreSmall, with
 use crate::fault::InsertFault;
 use bit_core::Octets;
 use latm::{MuxConfig, Slots, Stream};
-use std::alloc::Global;
+use std::alloc::{AllocError, Global};
 use std::vec::Vec;
 use usac_cfg::UsacConfig;
 use usac_frame::read_head;
@@ -26,7 +27,7 @@ fn check_frame(
     au: &[u8],
 ) -> Result<(), InsertFault>
     requires { length au.now ≤ 8191 }
-    ensures { (first : ConfigValue) → same ≡ same first config.now → Passes result (frame_rule first frame (config.now, au.now)) }
+    ensures { (first : ConfigValue) → same ≡ same_config first config.now → Passes result (frame_rule first frame (config.now, au.now)) }
 {
     if !same {
         return Err(InsertFault::ConfigChanges { frame });
@@ -35,6 +36,13 @@ fn check_frame(
         Ok(_) => Ok(()),
         Err(fault) => Err(InsertFault::of_frame(frame, fault)),
     }
+}
+
+fn add<'a>(aus: &mut Vec<&'a [u8]>, au: &'a [u8]) -> Result<(), AllocError>
+    ensures { OnOk result (refs aus.new.items ≡ refs aus.old.items ++ au.now ∷ []) }
+{
+    aus.push(au)?;
+    Ok(())
 }
 
 /// Adds the access units of slots under one configuration.
@@ -46,12 +54,12 @@ fn gather_slots<'a>(
     aus: &mut Vec<&'a [u8]>,
 ) -> Result<(), InsertFault>
     requires { AreSmall slots.now }
-    ensures { (first : ConfigValue) → same ≡ same first config.now → Gathers result first (with_config config.now slots.now) (refs aus.old.items) (refs aus.new.items) }
+    ensures { (first : ConfigValue) → same ≡ same_config first config.now → Gathers result first (with_config config.now slots.now) (refs aus.old.items) (refs aus.new.items) }
 {
     for slot in slots {
         let frame = aus.len() as u64;
         check_frame(alloc, same, config, frame, slot.as_slice())?;
-        aus.push(slot.as_slice())?;
+        add(aus, slot.as_slice())?;
     }
     Ok(())
 }

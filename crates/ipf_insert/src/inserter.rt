@@ -9,7 +9,7 @@ ghost use Rattle.ipf_insert.specs.Rules.{insert_fault};
 ghost use Rattle.ipf_insert.specs.Steps.{Judges};
 ghost use Rattle.ipf_insert.specs.Giving.{given, GivesNext, IsWritable};
 
-use crate::changing::{changed, has_target};
+use crate::changing::{changed, copied, has_target};
 use crate::fault::InsertFault;
 use crate::gathering::gather;
 use crate::rules::check_list;
@@ -110,10 +110,10 @@ impl<'a> Inserter<'a> {
 impl<'a> Given<'a> {
     /// The element itself, copied where it is as it was. The one error is out of memory.
     fn into_element(self, alloc: Global) -> Result<MuxElement, AllocError>
-        ensures { IfOk result (λ element. element ≡ given self) }
+        ensures { IfOk result (λ element. element ≡ given self.entry) }
     {
         match self {
-            Given::Kept(element) => element.copy(alloc),
+            Given::Kept(element) => copied(alloc, element),
             Given::Changed(element) => Ok(element),
         }
     }
