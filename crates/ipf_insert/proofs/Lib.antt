@@ -6,3 +6,4 @@ pub mod Here
 pub mod Kept
 pub mod Whole
 pub mod Judged
+pub mod Gathered

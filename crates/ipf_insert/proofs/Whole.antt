@@ -9,7 +9,7 @@ use Rattle.latm.specs.declared.mux_element.MuxElement.{MuxElement}
 use Rattle.latm.specs.MuxElement.{with_slots, opening, slot_of_bytes}
 use Rattle.latm.specs.Written.{element_text}
 
-bytes_whole : (xs : List ℕ) → length (flat_map (num 8) xs) ≡ 8 * length xs
+pub bytes_whole : (xs : List ℕ) → length (flat_map (num 8) xs) ≡ 8 * length xs
 unfolding bits_of
 bytes_whole xs = length-bits_of xs
 
@@ -25,7 +25,7 @@ slots_whole [] = refl
 slots_whole (x ∷ xs) = omega (arith, length-append (slot_of_bytes.spelling x) (flat_map slot_of_bytes.spelling xs), slot_whole x, slots_whole xs)
 
 -- how long an element is
-text_length : (e : MuxElement) → length (element_text e) ≡ length ((opening false).spelling e.config) + (length (flat_map slot_of_bytes.spelling e.slots) + (length e.other + length e.tail))
+pub text_length : (e : MuxElement) → length (element_text e) ≡ length ((opening false).spelling e.config) + (length (flat_map slot_of_bytes.spelling e.slots) + (length e.other + length e.tail))
 text_length e =
     length-append ((opening false).spelling e.config) (flat_map slot_of_bytes.spelling e.slots ++ (e.other ++ e.tail))
     ∙ ap (λ (n : ℕ). length ((opening false).spelling e.config) + n) (length-append (flat_map slot_of_bytes.spelling e.slots) (e.other ++ e.tail) ∙ ap (λ (n : ℕ). length (flat_map slot_of_bytes.spelling e.slots) + n) (length-append e.other e.tail))

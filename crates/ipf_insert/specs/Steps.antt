@@ -1,16 +1,19 @@
 -- How far a stream was judged, and what is known of it then: for the private functions.
-use Rattle.std.specs.Prelude.{◌≡◌, ◌+◌, ◌-◌, ◌<◌, ◌≤◌, ◌%◌, ◌^◌, ℕ, zero, suc, Bool, true, false, ◌||◌, List, [], ◌∷◌, ◌++◌, length, map, drop, get_or, Option, Some, None, Result, Ok, Err}
+use Rattle.std.specs.Prelude.{◌≡◌, ◌+◌, ◌-◌, ◌<◌, ◌≤◌, ◌%◌, ◌^◌, ℕ, zero, suc, Bool, true, false, not, ◌||◌, List, [], ◌∷◌, ◌++◌, length, map, drop, get_or, Option, Some, None, Result, Ok, Err}
 use Rattle.std.specs.List.{AllByRecursion, flat_map}
 use Rattle.std.specs.Borrow.{Bor}
 use Rattle.layout.specs.Layout.{FitsOption}
 use Rattle.usac_cfg.specs.declared.usac_config.UsacConfig.{UsacConfig}
 use Rattle.usac_cfg.specs.UsacConfig.{IsWellFormed as IsConfig}
+use Rattle.usac_cfg.specs.Same.{same}
 use Rattle.usac_frame.specs.declared.head.FrameHead.{FrameHead}
 use Rattle.usac_frame.specs.Head.{with_rest}
 use Rattle.usac_frame.specs.AccessUnit.{IsFrame}
+use Rattle.preroll.specs.Carrying.{short_at}
 use Rattle.latm.specs.declared.mux_element.MuxElement.{MuxElement}
 use Rattle.latm.specs.MuxConfig.{IsWellFormed as IsMux}
-use Rattle.latm.specs.Stream.{au_in}
+use Rattle.latm.specs.declared.mux_config.MuxConfig.{MuxConfig}
+use Rattle.latm.specs.Stream.{config_in, au_in}
 use Rattle.latm.specs.Written.{element_text}
 use Rattle.ipf_frame.specs.Payload.{config_bytes}
 use Rattle.ipf_frame.specs.Laws.{AreFrames, AreSlots}
@@ -18,7 +21,7 @@ use Rattle.ipf_insert.specs.declared.sources.Sources.{Sources}
 use Rattle.ipf_insert.specs.declared.fault.InsertFault.{InsertFault}
 use Rattle.ipf_insert.specs.declared.fault.InsertFault.TheVariants.{ConfigChanges, Frame, NotDeclared, ConfigTooLong, BadCount, BadTarget, NotIndependent, AlreadyPresent, TooEarly, FirstDependent, PayloadTooLong, TooLong, Memory}
 use Rattle.ipf_insert.specs.Inserting.{Settled, is_target}
-use Rattle.ipf_insert.specs.Rules.{frames_rule, frame_of_target, units_of_target, element_of}
+use Rattle.ipf_insert.specs.Rules.{or_then, fault_if, short_rule, frame_of_target, units_of_target, element_of}
 
 -- This follows of a rule's refusal. Out of memory says nothing.
 abbrev pub IfRule : InsertFault → Type 0 → Type 0
@@ -55,10 +58,20 @@ refs aus = map (λ au. au.now) aus
 abbrev pub with_config : UsacConfig → List (List ℕ) → List (UsacConfig × List ℕ)
 with_config c slots = map (λ au. (c, au)) slots
 
+-- The rules of frames, where it is known whether their configuration is that of frame 0.
+abbrev pub frames_where : Bool → ℕ → List (UsacConfig × List ℕ) → Option InsertFault
+frames_where same n [] = None
+frames_where same n (f ∷ fs) = or_then (or_then (fault_if (not same) (ConfigChanges n)) (short_rule n (short_at (config_in f) (au_in f)))) (frames_where same (suc n) fs)
+
 -- These frames pass and their access units were added, or one of them is refused.
-abbrev pub Gathers : Result (Unit {0}) InsertFault → UsacConfig → List (UsacConfig × List ℕ) → List (List ℕ) → List (List ℕ) → Type 0
-Gathers (Ok v) first fs old new = (frames_rule first (length old) fs ≡ None) × (new ≡ old ++ map au_in fs)
-Gathers (Err e) first fs old new = IfRule e (frames_rule first (length old) fs ≡ Some e)
+abbrev pub Gathers : Result (Unit {0}) InsertFault → Bool → List (UsacConfig × List ℕ) → List (List ℕ) → List (List ℕ) → Type 0
+Gathers (Ok v) same fs old new = (frames_where same (length old) fs ≡ None) × (new ≡ old ++ map au_in fs)
+Gathers (Err e) same fs old new = IfRule e (frames_where same (length old) fs ≡ Some e)
+
+-- It is known whether the configuration in force is that of frame 0.
+abbrev pub IsSame : Bool → UsacConfig → Option MuxConfig → Type 0
+IsSame b first None = Unit {0}
+IsSame b first (Some m) = b ≡ same first m.asc.usac
 
 -- so many bytes at most as an element can have
 abbrev pub AreSmall : List (List ℕ) → Type 0

@@ -1,14 +1,14 @@
 // The frames of a stream: all of one configuration, and each access unit a frame.
-ghost use Rattle.std.specs.Prelude.{◌≡◌, ◌≤◌, ◌++◌, [], ◌∷◌, length, map, OnOk};
 ghost use Rattle.std.specs.Option.{option_copied};
+ghost use Rattle.std.specs.Prelude.{◌≡◌, ◌≤◌, ◌++◌, [], ◌∷◌, length, map, OnOk};
 ghost use Rattle.layout.specs.Layout.{FitsOption};
-ghost use Rattle.usac_cfg.specs.declared.usac_config.UsacConfig.{UsacConfig as ConfigValue};
 ghost use Rattle.usac_cfg.specs.UsacConfig.{IsWellFormed as IsConfig};
 ghost use Rattle.usac_cfg.specs.Same.{same as same_config};
+ghost use Rattle.preroll.specs.Carrying.{short_at};
 ghost use Rattle.latm.specs.MuxConfig.{IsWellFormed as IsMux};
 ghost use Rattle.latm.specs.Stream.{IsWellFormed, slots_under, frames_of, au_in};
-ghost use Rattle.ipf_insert.specs.Rules.{frame_rule, frames_rule};
-ghost use Rattle.ipf_insert.specs.Steps.{Passes, Judges, Gathers, AreSmall, with_config, refs};
+ghost use Rattle.ipf_insert.specs.Rules.{short_rule, frames_rule};
+ghost use Rattle.ipf_insert.specs.Steps.{Passes, Judges, Gathers, AreSmall, IsSame, with_config, refs};
 
 use crate::fault::InsertFault;
 use bit_core::Octets;
@@ -18,20 +18,25 @@ use std::vec::Vec;
 use usac_cfg::UsacConfig;
 use usac_frame::read_head;
 
-/// Refuses a frame of another configuration than that of frame 0, and an access unit that is no frame.
+/// Whether two configurations are equal, in every field.
+fn is_same(a: &UsacConfig, b: &UsacConfig) -> bool
+    requires first { IsConfig a.now }
+    requires second { IsConfig b.now }
+    ensures { result ≡ same_config a.now b.now }
+{
+    a.same(b)
+}
+
+/// Refuses an access unit that is no frame.
 fn check_frame(
     alloc: Global,
-    same: bool,
     config: &UsacConfig,
     frame: u64,
     au: &[u8],
 ) -> Result<(), InsertFault>
     requires { length au.now ≤ 8191 }
-    ensures { (first : ConfigValue) → same ≡ same_config first config.now → Passes result (frame_rule first frame (config.now, au.now)) }
+    ensures { Passes result (short_rule frame (short_at config.now au.now)) }
 {
-    if !same {
-        return Err(InsertFault::ConfigChanges { frame });
-    }
     match read_head(alloc, config, au) {
         Ok(_) => Ok(()),
         Err(fault) => Err(InsertFault::of_frame(frame, fault)),
@@ -45,7 +50,7 @@ fn add<'a>(aus: &mut Vec<&'a [u8]>, au: &'a [u8]) -> Result<(), AllocError>
     Ok(())
 }
 
-/// Adds the access units of slots under one configuration.
+/// Adds the access units of slots under one configuration, which is that of frame 0 or another one.
 fn gather_slots<'a>(
     alloc: Global,
     same: bool,
@@ -54,11 +59,14 @@ fn gather_slots<'a>(
     aus: &mut Vec<&'a [u8]>,
 ) -> Result<(), InsertFault>
     requires { AreSmall slots.now }
-    ensures { (first : ConfigValue) → same ≡ same_config first config.now → Gathers result first (with_config config.now slots.now) (refs aus.old.items) (refs aus.new.items) }
+    ensures { Gathers result same (with_config config.now slots.now) (refs aus.old.items) (refs aus.new.items) }
 {
     for slot in slots {
         let frame = aus.len() as u64;
-        check_frame(alloc, same, config, frame, slot.as_slice())?;
+        if !same {
+            return Err(InsertFault::ConfigChanges { frame });
+        }
+        check_frame(alloc, config, frame, slot.as_slice())?;
         add(aus, slot.as_slice())?;
     }
     Ok(())
@@ -67,21 +75,18 @@ fn gather_slots<'a>(
 /// Adds the access units of an element.
 fn gather_element<'a>(
     alloc: Global,
-    first: &UsacConfig,
+    same: bool,
     in_force: Option<&MuxConfig>,
     slots: &'a Slots,
     aus: &mut Vec<&'a [u8]>,
 ) -> Result<(), InsertFault>
-    requires first { IsConfig first.now }
-    requires in_force { FitsOption IsMux (option_copied in_force) }
-    requires small { AreSmall slots.now }
-    ensures { Gathers result first.now (slots_under (option_copied in_force.entry) slots.now) (refs aus.old.items) (refs aus.new.items) }
+    requires { AreSmall slots.now }
+    ensures { Gathers result same (slots_under (option_copied in_force.entry) slots.now) (refs aus.old.items) (refs aus.new.items) }
 {
     let Some(config) = in_force else {
         return Ok(());
     };
-    let config = &config.asc.usac;
-    gather_slots(alloc, first.same(config), config, slots.as_slice(), aus)
+    gather_slots(alloc, same, &config.asc.usac, slots.as_slice(), aus)
 }
 
 /// The access units of a stream, of which frame 0 has that configuration.
@@ -96,11 +101,13 @@ pub fn gather<'a>(
 {
     let mut aus: Vec<&'a [u8]> = Vec::new(alloc);
     let mut in_force: Option<&MuxConfig> = None;
+    let mut same = true;
     for element in stream.elements.as_slice() {
         if let Some(config) = &element.config {
+            same = is_same(first, &config.asc.usac);
             in_force = Some(config);
         }
-        gather_element(alloc, first, in_force, &element.slots, &mut aus)?;
+        gather_element(alloc, same, in_force, &element.slots, &mut aus)?;
     }
     Ok(aus)
 }

@@ -1,0 +1,1 @@
+use Rattle.ipf_insert.proofs.gathering.gather_element.Goals as goal
