@@ -7,3 +7,5 @@ pub mod Kept
 pub mod Whole
 pub mod Judged
 pub mod Gathered
+pub mod Writable
+pub mod Standing

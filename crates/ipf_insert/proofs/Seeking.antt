@@ -20,7 +20,7 @@ pub count_both : (xs ys : List MuxElement) → slot_count (xs ++ ys) ≡ slot_co
 count_both [] ys = omega arith
 count_both (x ∷ xs) ys = let more = count_both xs ys in omega (arith, more)
 
-count_last : (es : List MuxElement) (e : MuxElement) → slot_count (es ++ e ∷ []) ≡ slot_count es + length e.slots
+pub count_last : (es : List MuxElement) (e : MuxElement) → slot_count (es ++ e ∷ []) ≡ slot_count es + length e.slots
 count_last es e = count_both es (e ∷ []) ∙ (let n : slot_count es + (length e.slots + 0) ≡ slot_count es + length e.slots = omega arith in n)
 
 -- one element on

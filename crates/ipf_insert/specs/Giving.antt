@@ -1,5 +1,5 @@
 -- The elements of a stream with its targets inserted, as they are given one after another.
-use Rattle.std.specs.Prelude.{◌≡◌, ◌+◌, ◌≤◌, ◌%◌, ℕ, List, [], ◌∷◌, length, Option, Some, None, Result, Ok, Err}
+use Rattle.std.specs.Prelude.{◌≡◌, ◌+◌, ◌<◌, ◌≤◌, ◌%◌, ℕ, List, [], ◌∷◌, length, Option, Some, None, Result, Ok, Err}
 use Rattle.std.specs.List.{AllByRecursion}
 use Rattle.std.specs.declared.alloc.AllocError.{AllocError}
 use Rattle.layout.specs.Layout.{FitsOption}
@@ -22,11 +22,11 @@ pub record IsWritable (e : MuxElement) : Type 0 where
   pub whole : length (element_text e) % 8 ≡ 0
   pub few : length (element_text e) ≤ 65528
 
--- The first element was given, which can be written, and the others are still to be given; or there was none, or no memory.
+-- The first element was given, which can be written, and the others are still to be given; or there was none, or no memory for it.
 abbrev pub GivesNext : List MuxElement → List MuxElement → Result (Option Given) AllocError → Type 0
 GivesNext old new (Ok None) = (old ≡ []) × (new ≡ [])
 GivesNext old new (Ok (Some g)) = (old ≡ given g ∷ new) × IsWritable (given g)
-GivesNext old new (Err e) = new ≡ old
+GivesNext old new (Err e) = (new ≡ old) × (0 < length old)
 
 -- ---- for the proofs of this crate
 
