@@ -9,3 +9,4 @@ pub mod Judged
 pub mod Gathered
 pub mod Writable
 pub mod Standing
+pub mod NextElement
