@@ -10,6 +10,8 @@ mod cleaning;
 pub mod laws;
 mod payload;
 mod slot;
+#[cfg(test)]
+mod tests;
 
 pub use cleaning::clean;
 pub use payload::{config_bytes, new_payload};
