@@ -72,9 +72,14 @@ module _ (c : UsacConfig) (fade : Bool) (aus : List (List ℕ)) (frames : AreFra
     tail = refl;
   }
 
--- the preroll that the code makes is well formed
-pub made_well_formed : (c : UsacConfig) (fade : Bool) (aus : List (List ℕ)) (p : PreRoll) → AreFrames c aus → AreSlots aus → length aus ≤ 18 → length (config_bytes c) ≤ 285 → p ≡ new_preroll c fade aus → IsWellFormed p
-made_well_formed c fade aus p frames slots few short e = subst (λ (q : PreRoll). IsWellFormed q) (sym e) (new_well_formed c fade aus frames slots few short)
+-- the preroll that the code makes is it
+pub made_preroll : (c : UsacConfig) (fade : Bool) (aus : List (List ℕ)) (config : List ℕ) (units : List (List ℕ)) (tail : List Bool) → config ≡ config_bytes c → units ≡ map (clean c) aus → tail ≡ []
+    → (let p : PreRoll = record { config = config; fade = fade; reserved = false; units = units; tail = tail } in p) ≡ new_preroll c fade aus
+made_preroll c fade aus config units tail same clean none = rw (same, clean, none) refl
+
+pub made_well_formed : (c : UsacConfig) (fade : Bool) (aus : List (List ℕ)) (bytes : List ℕ) (p : PreRoll) → AreFrames c aus → AreSlots aus → length aus ≤ 18 → bytes ≡ config_bytes c → length bytes ≤ 285 → p ≡ new_preroll c fade aus → IsWellFormed p
+made_well_formed c fade aus bytes p frames slots few is short e =
+    subst (λ (q : PreRoll). IsWellFormed q) (sym e) (new_well_formed c fade aus frames slots few (subst (λ (xs : List ℕ). length xs ≤ 285) is short))
 
 pub payload_back : (c : UsacConfig) (fade : Bool) (aus : List (List ℕ)) (p : PreRoll) (bytes slice : List ℕ) → p ≡ new_preroll c fade aus → slice ≡ bytes → All (λ byte. byte < 256) slice → bits_of bytes ≡ pad (preroll_text p) → bytes ≡ new_payload c fade aus
 unfolding new_payload
