@@ -14,6 +14,7 @@ use vectors::bytes_of;
 
 // `STREAM_2`, and the same with usacExtElementPayloadFrag at the preroll element.
 const PLAIN: &str = "1908E600C7200020";
+
 const SPREAD: &str = "1908E608C7200020";
 
 // The frame B0 of `PLAIN` with a preroll, which carries 81.
@@ -26,7 +27,13 @@ type TargetRow = (&'static str, bool, &'static str, &'static str, &'static str);
 const TARGETS: &[TargetRow] = &[
     (PLAIN, false, "81", "B0", JOINS),
     (PLAIN, true, "81", "B0", "C1903211CC018E4000412000303800"),
-    (PLAIN, false, JOINS, "B0", "C1B03211CC018E400040200056001800"),
+    (
+        PLAIN,
+        false,
+        JOINS,
+        "B0",
+        "C1B03211CC018E400040200056001800",
+    ),
     (SPREAD, false, "81", "B0", "C19C0C8473046390001008000C0E00"),
 ];
 
