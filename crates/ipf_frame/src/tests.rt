@@ -149,6 +149,7 @@ fn check_length(
 ) -> Result<(), Fail> {
     let (count, front, len) = *row;
     assert!(rt; count <= 300);
+    assert!(rt; len >= 2);
     assert!(rt; len <= 300);
     let config = config_in(rt, PLAIN)?;
     let mut zeros = Vec::new(rt.alloc());
