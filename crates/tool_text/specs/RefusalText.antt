@@ -71,6 +71,14 @@ reason_text reasons.PositionsFall = codes "positions do not rise"
 reason_text (reasons.NoFrameAt position) = codes "no frame at " & decimal position
 reason_text reasons.RateDiffers = codes "rate differs"
 reason_text reasons.ChannelsDiffer = codes "channels differ"
+reason_text reasons.NotDeclared = codes "preroll not declared"
+reason_text reasons.ConfigTooLong = codes "configuration too long"
+reason_text reasons.BadCount = codes "bad count"
+reason_text (reasons.BadTarget place) = codes "bad target " & decimal place
+reason_text reasons.AlreadyPresent = codes "already present"
+reason_text reasons.TooEarly = codes "too early"
+reason_text reasons.PayloadTooLong = codes "payload too long"
+reason_text reasons.NotInserted = codes "not inserted"
 
 -- the whole line, with its line feed
 abbrev pub refusal_text : Option Within → Refusal → List ℕ

@@ -108,4 +108,20 @@ pub enum Reason {
     RateDiffers,
     /// The stream has another number of output channels than that of the piece before.
     ChannelsDiffer,
+    /// The configuration of the stream declares no preroll, or there is no frame that has one.
+    NotDeclared,
+    /// The bytes of the configuration are more than 285, the most that a preroll holds.
+    ConfigTooLong,
+    /// A preroll cannot carry so many access units: none, or more than 18.
+    BadCount,
+    /// The target in that place of the list is not above the one before it, or no frame of the stream.
+    BadTarget { place: u64 },
+    /// The frame has a part for a preroll already, of any length.
+    AlreadyPresent,
+    /// There are fewer frames before it than its preroll is to carry.
+    TooEarly,
+    /// Its preroll would have more than 65788 bytes, the most that the length of an extension element counts.
+    PayloadTooLong,
+    /// No insertion made the frame immediate: without its preroll the last bits of it, which fill no byte, are not all 0.
+    NotInserted,
 }

@@ -205,6 +205,38 @@ const REFUSALS: &[(Place, Reason, &str)] = &[
         Reason::ChannelsDiffer,
         "refused: channels differ\n",
     ),
+    (
+        Place::Whole,
+        Reason::NotDeclared,
+        "refused: preroll not declared\n",
+    ),
+    (
+        Place::Whole,
+        Reason::ConfigTooLong,
+        "refused: configuration too long\n",
+    ),
+    (Place::Whole, Reason::BadCount, "refused: bad count\n"),
+    (
+        Place::Whole,
+        Reason::BadTarget { place: 17 },
+        "refused: bad target 17\n",
+    ),
+    (
+        FRAME,
+        Reason::AlreadyPresent,
+        "refused: frame 7: already present\n",
+    ),
+    (FRAME, Reason::TooEarly, "refused: frame 7: too early\n"),
+    (
+        FRAME,
+        Reason::PayloadTooLong,
+        "refused: frame 7: payload too long\n",
+    ),
+    (
+        FRAME,
+        Reason::NotInserted,
+        "refused: frame 7: not inserted\n",
+    ),
 ];
 
 const FRAME_OF_PIECE: Place = Place::Frame(4);

@@ -91,6 +91,14 @@ fn reason_text(alloc: Global, reason: Reason) -> Result<String, AllocError>
         Reason::NoFrameAt { position } => format!(in alloc; "no frame at {position}"),
         Reason::RateDiffers => format!(in alloc; "rate differs"),
         Reason::ChannelsDiffer => format!(in alloc; "channels differ"),
+        Reason::NotDeclared => format!(in alloc; "preroll not declared"),
+        Reason::ConfigTooLong => format!(in alloc; "configuration too long"),
+        Reason::BadCount => format!(in alloc; "bad count"),
+        Reason::BadTarget { place } => format!(in alloc; "bad target {place}"),
+        Reason::AlreadyPresent => format!(in alloc; "already present"),
+        Reason::TooEarly => format!(in alloc; "too early"),
+        Reason::PayloadTooLong => format!(in alloc; "payload too long"),
+        Reason::NotInserted => format!(in alloc; "not inserted"),
     }
 }
 

@@ -4,3 +4,4 @@ pub mod CheckSteps
 pub mod Headlines
 pub mod PairLemmas
 pub mod ListedLemmas
+pub mod TargetLemmas

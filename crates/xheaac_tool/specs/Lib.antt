@@ -3,6 +3,7 @@ pub mod Checking
 pub mod Counting
 pub mod Reading
 pub mod Numbers
+pub mod TargetWords
 pub mod Words
 pub mod Asked
 pub mod Listed

@@ -2,10 +2,11 @@
 ghost use Rattle.std.specs.Option.{option_map};
 ghost use Rattle.std.specs.Prelude.{◌≡◌};
 ghost use Rattle.xheaac_tool.specs.Asked.{asked};
-ghost use Rattle.xheaac_tool.specs.Words.{case_of, only_word, start_of, texts};
+ghost use Rattle.xheaac_tool.specs.Words.{case_of, count_of, fade_of, insert_of, only_word, start_of, texts};
 
 use crate::numbers::read_number;
 use crate::piece_words::Pairs;
+use crate::target_words::TargetWords;
 use std::alloc::AllocError;
 use thiserror::Error;
 
@@ -29,6 +30,12 @@ pub enum Asked<'a> {
     Plan { pieces: Pairs<'a> },
     Splice { pieces: Pairs<'a> },
     Switch { pieces: Pairs<'a> },
+    Insert {
+        file: &'a str,
+        count: u32,
+        fade: bool,
+        targets: TargetWords<'a>,
+    },
 }
 
 /// The one FILE that most commands ask for.
@@ -53,6 +60,38 @@ fn read_start<'a>(words: &'a [String]) -> Option<Asked<'a>>
     }
 }
 
+/// Reads K: a number, and 4294967295 where it is over that.
+fn read_count(word: &str) -> Option<u32>
+    ensures { result ≡ count_of word.now }
+{
+    let count = read_number(word)?;
+    Some(u32::try_from(count).unwrap_or(u32::MAX))
+}
+
+fn read_fade(word: &str) -> Option<bool>
+    ensures { result ≡ fade_of word.now }
+{
+    match word {
+        "0" => Some(false),
+        "1" => Some(true),
+        _ => None,
+    }
+}
+
+fn read_insert<'a>(words: &'a [String]) -> Option<Asked<'a>>
+    ensures { option_map asked result ≡ insert_of (texts words.now) }
+{
+    match words {
+        [file, count, fade, targets] => Some(Asked::Insert {
+            file: file.as_str(),
+            count: read_count(count.as_str())?,
+            fade: read_fade(fade.as_str())?,
+            targets: TargetWords::read(targets.as_str())?,
+        }),
+        _ => None,
+    }
+}
+
 /// Reads the words; `None` where they are no case.
 pub fn read_words<'a>(words: &'a [String]) -> Option<Asked<'a>>
     ensures { option_map asked result ≡ case_of (texts words.now) }
@@ -68,6 +107,7 @@ pub fn read_words<'a>(words: &'a [String]) -> Option<Asked<'a>>
         "plan" => Pairs::read(others).map(|pieces| Asked::Plan { pieces }),
         "splice" => Pairs::read(others).map(|pieces| Asked::Splice { pieces }),
         "switch" => Pairs::read(others).map(|pieces| Asked::Switch { pieces }),
+        "insert" => read_insert(others),
         _ => None,
     }
 }
