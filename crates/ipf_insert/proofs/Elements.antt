@@ -1,5 +1,5 @@
 -- What the elements of a well formed stream give.
-use Rattle.std.proofs.Common.{◌≡◌, ℕ, ◌+◌, ◌*◌, ◌^◌, ◌<◌, ◌≤◌, Bool, false, List, [], ◌∷◌, ◌++◌, length, map, Option, Some, None, refl, sym, ap, subst, ◌∙◌, arith}
+use Rattle.std.proofs.Common.{◌≡◌, ℕ, ◌<◌, ◌≤◌, List, [], ◌∷◌, ◌++◌, length, map, Option, Some, None, refl, ap, ◌∙◌, arith}
 use Rattle.std.specs.Prelude.{is_some}
 use Rattle.std.specs.List.{flat_map, AllByRecursion}
 use Rattle.std.proofs.lemmas.List.{length-append}
@@ -12,7 +12,7 @@ use Rattle.usac_cfg.specs.UsacConfig.{IsWellFormed as IsConfig}
 use Rattle.latm.specs.declared.mux_config.MuxConfig.{MuxConfig}
 use Rattle.latm.specs.declared.mux_element.MuxElement.{MuxElement}
 use Rattle.latm.specs.MuxConfig.{IsWellFormed as IsMux}
-use Rattle.latm.specs.MuxElement.{then_in_force, slot_count, opening, slot_of_bytes, body, element, with_slots}
+use Rattle.latm.specs.MuxElement.{then_in_force, opening, slot_of_bytes, with_slots}
 use Rattle.latm.specs.Stream.{slots_under, slots_from, IsElementOf, AreElements, au_in}
 use Rattle.latm.specs.Written.{element_text}
 use Rattle.ipf_frame.specs.Laws.{AreSlots}

@@ -1,10 +1,8 @@
 -- The rules of the frames, and what they give where all pass.
-use Rattle.std.proofs.Common.{◌≡◌, ℕ, zero, suc, ◌+◌, ◌^◌, ◌<◌, ◌≤◌, Bool, true, false, List, [], ◌∷◌, ◌++◌, length, map, drop, Option, Some, None, Result, Ok, Err, refl, sym, ap, subst, ◌∙◌, append_assoc, arith}
+use Rattle.std.proofs.Common.{◌≡◌, ℕ, suc, ◌+◌, Bool, true, false, List, [], ◌∷◌, ◌++◌, length, map, Option, Some, None, refl, sym, ap, subst, ◌∙◌, arith}
 use Rattle.std.specs.Prelude.{not}
 use Rattle.std.specs.List.{AllByRecursion}
-use Rattle.std.proofs.lemmas.List.{length-append}
 use Rattle.layout.specs.Text.{bits_of}
-use Rattle.layout.specs.Layout.{FitsOption}
 use Rattle.layout.proofs.Whole.{fault_of_is}
 use Rattle.usac_cfg.specs.declared.usac_config.UsacConfig.{UsacConfig}
 use Rattle.usac_cfg.specs.UsacConfig.{IsWellFormed as IsConfig}
@@ -28,8 +26,8 @@ use Rattle.ipf_insert.specs.declared.fault.InsertFault.{InsertFault}
 use Rattle.ipf_insert.specs.declared.fault.InsertFault.TheVariants.{ConfigChanges, Frame as TooShort}
 use Rattle.ipf_insert.specs.Faults.{of_frame}
 use Rattle.ipf_insert.specs.Rules.{or_then, fault_if, short_rule, frame_rule, frames_rule}
-use Rattle.ipf_insert.specs.Steps.{IfRule, Passes, Gathers, IsSame, frames_where, with_config}
-use Rattle.ipf_insert.proofs.Targets.{passed, unset, on_rule}
+use Rattle.ipf_insert.specs.Steps.{IfRule, IsSame, frames_where}
+use Rattle.ipf_insert.proofs.Targets.{passed, unset}
 use Rattle.ipf_insert.proofs.Elements.{AreConfigs}
 
 -- ---- one frame

@@ -1,6 +1,5 @@
 -- The access units of a stream, element after element.
 use Rattle.std.proofs.Common.{◌≡◌, ℕ, zero, suc, ◌+◌, ◌<◌, ◌≤◌, Bool, List, [], ◌∷◌, ◌++◌, length, map, drop, get_or, Option, Some, None, refl, sym, ap, ◌∙◌, append_assoc, append-nil, arith}
-use Rattle.std.specs.List.{AllByRecursion}
 use Rattle.std.proofs.lemmas.List.{length-append, length-map, drop_more}
 use Rattle.usac_cfg.specs.declared.usac_config.UsacConfig.{UsacConfig}
 use Rattle.latm.specs.declared.mux_config.MuxConfig.{MuxConfig}
@@ -33,9 +32,10 @@ aus_with c (au ∷ slots) = ap (λ (xs : List (List ℕ)). au ∷ xs) (aus_with 
 pub gathered : (b : Bool) (c : UsacConfig) (old now slots : List (List ℕ)) (k : ℕ) → length slots ≤ k → frames_where b (length now) (with_config c (drop k slots)) ≡ frames_where b (length old) (with_config c slots) → now ++ drop k slots ≡ old ++ slots
     → (frames_where b (length old) (with_config c slots) ≡ None) × (now ≡ old ++ map au_in (with_config c slots))
 gathered b c old now slots k le so_far all =
-    let none = nothing slots k le in
-    (sym so_far ∙ ap (λ (xs : List (List ℕ)). frames_where b (length now) (with_config c xs)) none,
-     sym (append-nil now) ∙ ap (λ (xs : List (List ℕ)). now ++ xs) (sym none) ∙ all ∙ ap (λ (xs : List (List ℕ)). old ++ xs) (sym (aus_with c slots)))
+    let none = nothing slots k le in (
+      sym so_far ∙ ap (λ (xs : List (List ℕ)). frames_where b (length now) (with_config c xs)) none,
+      sym (append-nil now) ∙ ap (λ (xs : List (List ℕ)). now ++ xs) (sym none) ∙ all ∙ ap (λ (xs : List (List ℕ)). old ++ xs) (sym (aus_with c slots)),
+    )
 
 pub split : (es : List MuxElement) (k : ℕ) (e : MuxElement) → k < length es → e ≡ get_or es k e → drop k es ≡ e ∷ drop (k + 1) es
 split es k e lt is = drop_more es k e lt ∙ ap (λ (x : MuxElement). x ∷ drop (k + 1) es) (sym is)

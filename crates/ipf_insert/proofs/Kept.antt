@@ -1,22 +1,20 @@
 -- What a target gives that keeps its rules.
-use Rattle.std.proofs.Common.{◌≡◌, ℕ, ◌-◌, ◌<◌, ◌≤◌, Bool, true, false, List, [], ◌∷◌, length, Option, Some, None, refl, sym, ap, subst, ◌∙◌, arith}
+use Rattle.std.proofs.Common.{◌≡◌, ℕ, ◌-◌, ◌≤◌, Bool, true, false, List, [], ◌∷◌, length, Option, Some, None, refl, sym, ap, subst, ◌∙◌, arith}
 use Rattle.std.specs.Prelude.{◌||◌, ◌==◌, nat_lt, not, slice_get}
 use Rattle.std.specs.Option.{option_map_or}
-use Rattle.std.specs.List.{AllByRecursion}
 use Rattle.std.proofs.lemmas.Bool.{eqb-true}
 use Rattle.std.proofs.lemmas.Bool.Decides.{nat_tests}
 use Rattle.usac_cfg.specs.declared.usac_config.UsacConfig.{UsacConfig}
 use Rattle.usac_frame.specs.declared.frame.Frame.{Frame}
 use Rattle.usac_frame.specs.declared.part.ExtPart.{ExtPart}
 use Rattle.usac_frame.specs.declared.part.ExtPart.TheVariants.{Absent, Present}
-use Rattle.usac_frame.specs.AccessUnit.{IsFrame, frame_of, unit_in}
+use Rattle.usac_frame.specs.AccessUnit.{IsFrame, unit_in}
 use Rattle.usac_frame.specs.FrameFound.{frame_of_is}
 use Rattle.ipf_frame.specs.Payload.{new_payload}
 use Rattle.ipf_frame.specs.Slot.{slot_with, new_slot, IsOpen}
-use Rattle.ipf_insert.specs.declared.fault.InsertFault.{InsertFault}
 use Rattle.ipf_insert.specs.declared.fault.InsertFault.TheVariants.{NotIndependent, AlreadyPresent, TooEarly, FirstDependent, PayloadTooLong}
 use Rattle.ipf_insert.specs.Inserting.{Settled, payload_at, is_target}
-use Rattle.ipf_insert.specs.Rules.{or_then, fault_if, au_at, is_absent, is_open, frame_of_target, units_of_target}
+use Rattle.ipf_insert.specs.Rules.{fault_if, au_at, is_absent, is_open, frame_of_target, units_of_target}
 use Rattle.ipf_insert.specs.Steps.{IsKept, AreKept}
 use Rattle.ipf_insert.proofs.Targets.{passed, unset}
 

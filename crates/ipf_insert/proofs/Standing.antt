@@ -1,14 +1,12 @@
 -- What is known of a stream where the rules hold.
-use Rattle.std.proofs.Common.{◌≡◌, ℕ, zero, suc, ◌+◌, ◌<◌, ◌≤◌, ◌^◌, Bool, true, false, List, [], ◌∷◌, ◌++◌, length, map, drop, Option, Some, None, Result, Ok, Err, refl, sym, ap, subst, ◌∙◌, arith}
+use Rattle.std.proofs.Common.{◌≡◌, ℕ, ◌≤◌, Bool, true, false, List, [], ◌∷◌, length, map, Option, Some, None, refl, sym, ap, subst, ◌∙◌, arith}
 use Rattle.std.specs.Prelude.{◌||◌, ◌==◌, nat_lt, not, slice_get}
 use Rattle.std.specs.Option.{option_map}
 use Rattle.std.specs.Borrow.{Bor}
-use Rattle.std.specs.List.{AllByRecursion}
 use Rattle.std.proofs.lemmas.List.{length-map}
 use Rattle.std.proofs.lemmas.Bool.Decides.{nat_tests}
 use Rattle.usac_cfg.specs.declared.usac_config.UsacConfig.{UsacConfig}
 use Rattle.usac_cfg.specs.UsacConfig.{IsWellFormed as IsConfig, declares_preroll}
-use Rattle.latm.specs.declared.mux_element.MuxElement.{MuxElement}
 use Rattle.latm.specs.declared.stream.Stream.{Stream}
 use Rattle.latm.specs.Stream.{IsWellFormed, frames_of, config_in, au_in}
 use Rattle.ipf_frame.specs.Payload.{config_bytes}
@@ -18,7 +16,7 @@ use Rattle.ipf_insert.specs.declared.fault.InsertFault.TheVariants.{NotDeclared,
 use Rattle.ipf_insert.specs.declared.sources.Sources.{Sources}
 use Rattle.ipf_insert.specs.Inserting.{Settled, settled_of, stream_in, inserted}
 use Rattle.ipf_insert.specs.Rules.{or_then, fault_if, frames_rule, places_rule, list_rule, targets_rule, settled_rule, insert_fault}
-use Rattle.ipf_insert.specs.Steps.{IfRule, settled, refs, IsReady, IsFrom, slots_of}
+use Rattle.ipf_insert.specs.Steps.{IfRule, settled, refs, IsReady}
 use Rattle.ipf_insert.specs.Giving.{Stands}
 use Rattle.ipf_insert.proofs.Elements.{AreConfigs, configs_of, all_small, aus_of}
 use Rattle.ipf_insert.proofs.Frames.{all_frames}

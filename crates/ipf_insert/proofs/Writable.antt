@@ -1,7 +1,7 @@
 -- Where no target breaks a rule, each element can be written with all targets inserted.
 use Rattle.std.proofs.Common.{◌≡◌, ℕ, zero, suc, ◌+◌, ◌<◌, ◌≤◌, Bool, true, false, List, [], ◌∷◌, ◌++◌, length, Option, Some, None, refl, sym, ap, subst, ◌∙◌, append_assoc, append-nil, arith}
 use Rattle.std.specs.Prelude.{◌||◌, ◌==◌, nat_lt, if◌then◌else◌}
-use Rattle.std.specs.List.{AllByRecursion, list_any}
+use Rattle.std.specs.List.{AllByRecursion}
 use Rattle.std.proofs.lemmas.List.Folds.{list_any-append}
 use Rattle.std.proofs.lemmas.Bool.Decides.{nat_tests}
 use Rattle.latm.specs.declared.mux_config.MuxConfig.{MuxConfig}
@@ -14,7 +14,7 @@ use Rattle.ipf_insert.specs.declared.fault.InsertFault.TheVariants.{TooLong}
 use Rattle.ipf_insert.specs.Inserting.{Settled, units_before, is_target, slots_in, element_in, elements_in}
 use Rattle.ipf_insert.specs.Rules.{or_then, fault_if, is_long, element_of, frame_of_target, units_of_target, target_rule, targets_rule}
 use Rattle.ipf_insert.specs.Giving.{IsWritable}
-use Rattle.ipf_insert.specs.Steps.{slot_count, AreBelow, IsKept, AreKept, has_target}
+use Rattle.ipf_insert.specs.Steps.{slot_count, AreBelow, AreKept, has_target}
 use Rattle.ipf_insert.proofs.Elements.{framable}
 use Rattle.ipf_insert.proofs.Seeking.{count_last, past, leading}
 use Rattle.ipf_insert.proofs.Targets.{passed, unset, kept_element}
@@ -90,13 +90,15 @@ writable_from i es targets before front [] kept cut h = tt
 writable_from i es targets before front (e ∷ rest) kept cut h =
     let f = framable before e h.0 in
     let has : (t : ℕ) → slot_count front ≤ t → t < slot_count front + length e.slots → element_of t 0 es ≡ Some (slot_count front, e) = λ t le lt.
-        ap (λ (xs : List MuxElement). element_of t 0 xs) cut ∙ past front (e ∷ rest) t 0 (omega (arith, le)) ∙ ap (λ (k : ℕ). element_of t k (e ∷ rest)) (let k : 0 + slot_count front ≡ slot_count front = omega arith in k) ∙ leading e rest t (slot_count front) lt in
-    (record {
-      config = f.config;
-      whole = whole_with (slots_in i targets (slot_count front) e.slots) e f.whole;
-      few = short_with i es (slot_count front) e has targets h.0.few kept;
-    }, subst (λ (n : ℕ). AllByRecursion IsWritable (elements_in i targets n rest)) (count_last front e)
-        (writable_from i es targets (then_in_force before e.config) (front ++ e ∷ []) rest kept (cut ∙ sym (append_assoc front (e ∷ []) rest)) h.1))
+    ap (λ (xs : List MuxElement). element_of t 0 xs) cut ∙ past front (e ∷ rest) t 0 (omega (arith, le)) ∙ ap (λ (k : ℕ). element_of t k (e ∷ rest)) (let k : 0 + slot_count front ≡ slot_count front = omega arith in k) ∙ leading e rest t (slot_count front) lt in (
+      record {
+        config = f.config;
+        whole = whole_with (slots_in i targets (slot_count front) e.slots) e f.whole;
+        few = short_with i es (slot_count front) e has targets h.0.few kept;
+      },
+      subst (λ (n : ℕ). AllByRecursion IsWritable (elements_in i targets n rest)) (count_last front e)
+          (writable_from i es targets (then_in_force before e.config) (front ++ e ∷ []) rest kept (cut ∙ sym (append_assoc front (e ∷ []) rest)) h.1),
+    )
 
 -- ---- all targets
 

@@ -1,5 +1,5 @@
 -- The elements of a stream with its targets inserted, as they are given one after another.
-use Rattle.std.specs.Prelude.{◌≡◌, ◌+◌, ◌<◌, ◌≤◌, ◌%◌, ℕ, List, [], ◌∷◌, length, Option, Some, None, Result, Ok, Err}
+use Rattle.std.specs.Prelude.{◌≡◌, ◌<◌, ◌≤◌, ◌%◌, ℕ, List, [], ◌∷◌, length, Option, Some, None, Result, Ok, Err}
 use Rattle.std.specs.List.{AllByRecursion}
 use Rattle.std.specs.declared.alloc.AllocError.{AllocError}
 use Rattle.layout.specs.Layout.{FitsOption}
@@ -10,7 +10,7 @@ use Rattle.ipf_insert.specs.declared.inserter.Given.{Given}
 use Rattle.ipf_insert.specs.declared.inserter.Given.TheVariants.{Kept, Changed}
 use Rattle.ipf_insert.specs.declared.sources.Sources.{Sources}
 use Rattle.ipf_insert.specs.Inserting.{elements_in}
-use Rattle.ipf_insert.specs.Steps.{settled, IsReady, IsRising, AreKept, IsFrom, AreFramable}
+use Rattle.ipf_insert.specs.Steps.{settled, IsReady, IsRising, AreKept, IsFrom}
 
 abbrev pub given : Given → MuxElement
 given (Kept e) = e.now

@@ -1,9 +1,8 @@
 -- What an insertion keeps and changes, as a relation of the elements before and behind.
-use Rattle.std.specs.Prelude.{◌≡◌, ◌+◌, ℕ, suc, Bool, true, false, List, [], ◌∷◌, length, map, Option, Some, None}
-use Rattle.usac_cfg.specs.declared.usac_config.UsacConfig.{UsacConfig}
+use Rattle.std.specs.Prelude.{◌≡◌, ◌+◌, ℕ, suc, Bool, true, false, List, [], ◌∷◌, length, Option, Some, None}
 use Rattle.latm.specs.declared.mux_element.MuxElement.{MuxElement}
 use Rattle.latm.specs.declared.stream.Stream.{Stream}
-use Rattle.latm.specs.Stream.{frames_of, au_in}
+use Rattle.latm.specs.Stream.{frames_of}
 use Rattle.ipf_frame.specs.Slot.{IsTarget}
 use Rattle.ipf_insert.specs.Inserting.{Settled, settled_of, units_before, is_target}
 

@@ -1,5 +1,5 @@
 -- How far a stream was judged, and what is known of it then: for the private functions.
-use Rattle.std.specs.Prelude.{◌≡◌, ◌+◌, ◌-◌, ◌<◌, ◌≤◌, ◌%◌, ◌^◌, ℕ, zero, suc, Bool, true, false, not, ◌||◌, List, [], ◌∷◌, ◌++◌, length, map, drop, get_or, Option, Some, None, Result, Ok, Err}
+use Rattle.std.specs.Prelude.{◌≡◌, ◌+◌, ◌<◌, ◌≤◌, ◌%◌, ◌^◌, ℕ, zero, suc, Bool, false, not, ◌||◌, List, [], ◌∷◌, ◌++◌, length, map, drop, get_or, Option, Some, None, Result, Ok, Err}
 use Rattle.std.specs.List.{AllByRecursion, flat_map}
 use Rattle.std.specs.Borrow.{Bor}
 use Rattle.layout.specs.Layout.{FitsOption}
@@ -21,7 +21,7 @@ use Rattle.ipf_insert.specs.declared.sources.Sources.{Sources}
 use Rattle.ipf_insert.specs.declared.fault.InsertFault.{InsertFault}
 use Rattle.ipf_insert.specs.declared.fault.InsertFault.TheVariants.{ConfigChanges, Frame, NotDeclared, ConfigTooLong, BadCount, BadTarget, NotIndependent, AlreadyPresent, TooEarly, FirstDependent, PayloadTooLong, TooLong, Memory}
 use Rattle.ipf_insert.specs.Inserting.{Settled, is_target}
-use Rattle.ipf_insert.specs.Rules.{or_then, fault_if, short_rule, frame_of_target, units_of_target, element_of}
+use Rattle.ipf_insert.specs.Rules.{or_then, fault_if, short_rule, frame_of_target, units_of_target}
 
 -- This follows of a rule's refusal. Out of memory says nothing.
 abbrev pub IfRule : InsertFault → Type 0 → Type 0

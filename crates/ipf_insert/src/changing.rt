@@ -34,11 +34,7 @@ pub fn has_target(targets: &[u64], first: u64, count: u64) -> bool
 }
 
 /// The payload of a target's preroll.
-pub fn payload_at(
-    alloc: Global,
-    sources: &Sources<'_>,
-    frame: u64,
-) -> Result<Octets, AllocError>
+pub fn payload_at(alloc: Global, sources: &Sources<'_>, frame: u64) -> Result<Octets, AllocError>
     requires ready { IsReady sources.now }
     requires late { sources.now.count ≤ frame }
     requires below { frame < length (settled sources.now).aus }

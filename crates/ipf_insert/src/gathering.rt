@@ -28,12 +28,7 @@ fn is_same(a: &UsacConfig, b: &UsacConfig) -> bool
 }
 
 /// Refuses an access unit that is no frame.
-fn check_frame(
-    alloc: Global,
-    config: &UsacConfig,
-    frame: u64,
-    au: &[u8],
-) -> Result<(), InsertFault>
+fn check_frame(alloc: Global, config: &UsacConfig, frame: u64, au: &[u8]) -> Result<(), InsertFault>
     requires { length au.now ≤ 8191 }
     ensures { Passes result (short_rule frame (short_at config.now au.now)) }
 {

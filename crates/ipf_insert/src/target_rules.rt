@@ -123,7 +123,14 @@ pub fn check_targets(
         check_frame(alloc, sources, target)?;
         check_units(alloc, sources, target)?;
         (rest, first) = seek(rest, first, target);
-        check_length(alloc, sources, &targets[..place + 1], first, &rest[0], target)?;
+        check_length(
+            alloc,
+            sources,
+            &targets[..place + 1],
+            first,
+            &rest[0],
+            target,
+        )?;
     }
     Ok(())
 }

@@ -1,4 +1,4 @@
-use Rattle.std.proofs.Common.{◌≡◌, ◌+◌, ◌-◌, ◌∙◌, Bool, true, false, ap, sym, arith}
+use Rattle.std.proofs.Common.{◌+◌, ◌-◌, ◌∙◌, Bool, ap, sym}
 use Rattle.std.specs.Prelude.{◌||◌}
 use Rattle.ipf_insert.specs.Steps.{has_target}
 use Rattle.ipf_insert.proofs.Targets.{has_on}

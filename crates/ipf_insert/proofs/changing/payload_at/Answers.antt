@@ -10,16 +10,16 @@ pub new_payload-requires-clause-frames : goal.new_payload-requires-clause-frames
 new_payload-requires-clause-frames c =
     let s = c.args.sources.now in
     subst (λ (aus : List (List ℕ)). AreFrames s.config.now aus) (sym (part_is s.aus.items c.deref.result.now s.count c.args.frame c.deref.ensures.value c.requires.late))
-        (frames_part s.config.now (settled s).aus s.count (c.args.frame - s.count) c.requires.ready.frames)
+    (frames_part s.config.now (settled s).aus s.count (c.args.frame - s.count) c.requires.ready.frames)
 
 pub new_payload-requires-clause-slots : goal.new_payload-requires-clause-slots
 new_payload-requires-clause-slots c =
     let s = c.args.sources.now in
     subst AreSlots (sym (part_is s.aus.items c.deref.result.now s.count c.args.frame c.deref.ensures.value c.requires.late))
-        (slots_part (settled s).aus s.count (c.args.frame - s.count) c.requires.ready.slots)
+    (slots_part (settled s).aus s.count (c.args.frame - s.count) c.requires.ready.slots)
 
 pub returns : goal.returns
 returns c =
     let s = c.args.sources.now in
     subst (λ (aus : List (List ℕ)). IfOk c.new_payload.result (λ payload. payload ≡ new_payload s.config.now s.fade aus)) (part_is s.aus.items c.deref.result.now s.count c.args.frame c.deref.ensures.value c.requires.late)
-        c.new_payload.ensures
+    c.new_payload.ensures

@@ -29,5 +29,5 @@ loop-slot-preserved c =
     record {
       here = here_on (settled c.args.sources.now).aus (drop k slots) c.loop-slot.frame c.slot-item.result (drop (k + 1) slots) s c.loop-slot.invariant.here;
       so_far = slots_on (settled c.args.sources.now) c.args.targets.now c.loop-slot.frame c.loop-slot.changed c.push.new.self (drop k slots) (drop (k + 1) slots) c.slot-item.result c.in_ok-new.new s
-        (c.in_ok-new.ensures ∙ ap (λ (x : List ℕ). slot_in (settled c.args.sources.now) c.args.targets.now c.loop-slot.frame x) c.as_slice.ensures) c.in_ok-push.ensures.ok ∙ c.loop-slot.invariant.so_far;
+          (c.in_ok-new.ensures ∙ ap (λ (x : List ℕ). slot_in (settled c.args.sources.now) c.args.targets.now c.loop-slot.frame x) c.as_slice.ensures) c.in_ok-push.ensures.ok ∙ c.loop-slot.invariant.so_far;
     }

@@ -1,4 +1,4 @@
-use Rattle.std.proofs.Common.{◌≡◌, ◌+◌, ◌++◌, drop}
+use Rattle.std.proofs.Common.{◌≡◌, ◌++◌, drop}
 use Rattle.ipf_insert.specs.Inserting.{slots_in}
 use Rattle.ipf_insert.specs.Steps.{settled, IsHere}
 use Rattle.ipf_insert.proofs.changing.slots_in.Given as goal

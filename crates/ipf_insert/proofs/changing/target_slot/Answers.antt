@@ -1,7 +1,6 @@
 use Rattle.std.proofs.Common.{◌≡◌, ℕ, List, subst, sym}
 use Rattle.std.specs.Prelude.{IfOk}
 use Rattle.usac_frame.specs.AccessUnit.{IsFrame}
-use Rattle.ipf_frame.specs.Slot.{slot_with, new_slot}
 use Rattle.ipf_insert.specs.Inserting.{units_before}
 use Rattle.ipf_insert.specs.Rules.{au_at}
 use Rattle.ipf_insert.specs.Steps.{settled}
@@ -21,5 +20,5 @@ returns c =
     let i = settled c.args.sources.now in
     let au = au_is c.args.sources.now c.args.frame c.index.result.now c.index.ensures c.requires.kept.below in
     subst (λ (x : List ℕ). IfOk c.with_payload.result (λ new. new ≡ x))
-        (slot_is i.config i.fade (units_before i.count c.args.frame i.aus) (au_at i.aus c.args.frame) c.in_ok-payload.payload c.index.result.now.now c.in_ok-payload.ensures au)
-        c.with_payload.ensures
+    (slot_is i.config i.fade (units_before i.count c.args.frame i.aus) (au_at i.aus c.args.frame) c.in_ok-payload.payload c.index.result.now.now c.in_ok-payload.ensures au)
+    c.with_payload.ensures

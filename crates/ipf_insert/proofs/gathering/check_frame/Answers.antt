@@ -1,4 +1,4 @@
-use Rattle.std.proofs.Common.{◌≡◌, ap, sym}
+use Rattle.std.proofs.Common.{ap}
 use Rattle.usac_frame.specs.Head.{with_rest}
 use Rattle.ipf_insert.specs.Rules.{short_rule}
 use Rattle.ipf_insert.proofs.Frames.{not_short, refused_frame}

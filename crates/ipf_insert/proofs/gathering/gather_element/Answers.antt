@@ -1,1 +1,0 @@
-use Rattle.ipf_insert.proofs.gathering.gather_element.Goals as goal

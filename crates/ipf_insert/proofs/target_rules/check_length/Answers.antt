@@ -1,4 +1,4 @@
-use Rattle.std.proofs.Common.{◌≡◌, ◌%◌, ℕ, ap, subst, sym, length}
+use Rattle.std.proofs.Common.{◌≡◌, ◌%◌, subst, sym, length}
 use Rattle.latm.specs.declared.mux_element.MuxElement.{MuxElement}
 use Rattle.latm.specs.Written.{element_text}
 use Rattle.ipf_insert.specs.Inserting.{slots_in}

@@ -1,7 +1,6 @@
-use Rattle.std.proofs.Common.{◌≡◌, ◌+◌, ◌<◌, ◌≤◌, ◌∷◌, ◌++◌, ◌∙◌, ℕ, List, [], length, get_or, take, drop, Option, Some, None, ap, subst, sym, refl, arith}
+use Rattle.std.proofs.Common.{◌≡◌, ◌+◌, ◌<◌, ◌≤◌, ◌∙◌, ℕ, List, length, get_or, take, drop, Option, Some, ap, subst, sym, arith}
 use Rattle.std.specs.Borrow.{Bor}
 use Rattle.std.proofs.lemmas.List.{length-map, take_more}
-use Rattle.latm.specs.declared.mux_element.MuxElement.{MuxElement}
 use Rattle.ipf_insert.specs.declared.fault.InsertFault.{InsertFault}
 use Rattle.ipf_insert.specs.Rules.{or_then, element_of, targets_rule}
 use Rattle.ipf_insert.specs.Steps.{settled, IfRule, IsKept, AreKept}

@@ -12,9 +12,9 @@ returns-then-not-head c = first_dependent (settled c.args.sources.now) c.args.ta
 pub returns-then-len-gt65788 : goal.returns-then-len-gt65788
 returns-then-len-gt65788 c =
     too_long (settled c.args.sources.now) c.args.target c.in_ok-head.head c.in_ok-head.ensures (not_early c.args.target c.args.sources.now.count c.if-target-sources.false) c.in_ok-payload_at.field-0 c.if-not-head.false c.in_ok-payload_at.ensures
-        (omega (arith, c.if-len-gt65788.true, c.len-2.ensures))
+    (omega (arith, c.if-len-gt65788.true, c.len-2.ensures))
 
 pub returns : goal.returns
 returns c =
     units_kept (settled c.args.sources.now) c.args.target c.in_ok-head.head c.in_ok-head.ensures (not_early c.args.target c.args.sources.now.count c.if-target-sources.false) c.in_ok-payload_at.field-0 c.if-not-head.false c.in_ok-payload_at.ensures
-        (λ lt. omega (arith, lt, c.if-len-gt65788.false, c.len-2.ensures))
+    (λ lt. omega (arith, lt, c.if-len-gt65788.false, c.len-2.ensures))

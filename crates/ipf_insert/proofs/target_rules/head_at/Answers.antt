@@ -1,4 +1,4 @@
-use Rattle.std.proofs.Common.{◌≡◌, ◌≤◌, ℕ, List, length, subst, sym, ap, arith}
+use Rattle.std.proofs.Common.{ℕ, List, length, subst, sym, ap, arith}
 use Rattle.usac_frame.specs.AccessUnit.{IsFrame}
 use Rattle.usac_frame.specs.Head.{with_rest}
 use Rattle.ipf_insert.specs.Steps.{settled}

@@ -1,11 +1,10 @@
-use Rattle.std.proofs.Common.{◌≡◌, ◌∙◌, ℕ, List, Option, Some, None, sym, ap, subst}
+use Rattle.std.proofs.Common.{◌∙◌, None, sym}
 use Rattle.std.proofs.lemmas.Result.{err_from_is_err_and}
 use Rattle.latm.specs.Stream.{frames_of}
 use Rattle.ipf_insert.specs.declared.sources.Sources.{Sources}
-use Rattle.ipf_insert.specs.Inserting.{Settled, settled_of}
 use Rattle.ipf_insert.specs.Steps.{settled}
 use Rattle.ipf_insert.proofs.Elements.{aus_of, all_framable}
-use Rattle.ipf_insert.proofs.Standing.{first_config, configs_in, settled_is, list_refused, targets_refused, passes, inserted_is, listed, ready, stands}
+use Rattle.ipf_insert.proofs.Standing.{first_config, configs_in, settled_is, list_refused, targets_refused, listed, ready, stands}
 use Rattle.ipf_insert.proofs.inserter.Inserter.new.Goals as goal
 
 pub gather-requires-clause-first : goal.gather-requires-clause-first

@@ -1,7 +1,6 @@
-use Rattle.std.proofs.Common.{◌≡◌, ◌∙◌, ℕ, ◌+◌, ◌-◌, ◌≤◌, List, length, take, drop, sym, ap, subst, arith}
+use Rattle.std.proofs.Common.{◌≡◌, ◌∙◌, ℕ, ◌-◌, List, length, take, drop, sym, ap, subst, arith}
 use Rattle.std.specs.Borrow.{Bor}
 use Rattle.std.proofs.lemmas.List.{length-map}
-use Rattle.latm.specs.declared.mux_element.MuxElement.{MuxElement}
 use Rattle.ipf_insert.specs.Inserting.{element_in}
 use Rattle.ipf_insert.specs.Steps.{settled, has_target}
 use Rattle.ipf_insert.specs.Giving.{given, IsWritable}
@@ -45,6 +44,7 @@ returns c =
     let made : g ≡ element_in (settled i.sources) i.targets.now i.first e = elim c.if-has_target.branch [
       | then-has_target+in_ok-changed w ↦ ap given w.given-is ∙ w.in_ok-changed.ensures
       | else-has_target w ↦ ap given w.given-is ∙ kept_element (settled i.sources) i.targets.now i.first e (sym (c.has_target.ensures ∙ ap (λ (n : ℕ). has_target i.targets.now i.first n) c.len-count.ensures) ∙ w.if-has_target.false)
-    ] in
-    (sym c.self.view_is ∙ left_on i.sources i.targets.now i.first es (take (length es - 1) (drop 1 es)) e c.self.invariant cut c.len-count.result g c.len-count.ensures made,
-     subst IsWritable (sym made) (first_writable i.sources i.targets.now i.first es (take (length es - 1) (drop 1 es)) e c.self.invariant cut))
+    ] in (
+      sym c.self.view_is ∙ left_on i.sources i.targets.now i.first es (take (length es - 1) (drop 1 es)) e c.self.invariant cut c.len-count.result g c.len-count.ensures made,
+      subst IsWritable (sym made) (first_writable i.sources i.targets.now i.first es (take (length es - 1) (drop 1 es)) e c.self.invariant cut),
+    )
