@@ -10,3 +10,4 @@ pub mod Gathered
 pub mod Writable
 pub mod Standing
 pub mod NextElement
+pub mod OneElement

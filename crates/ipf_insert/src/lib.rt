@@ -12,6 +12,8 @@ mod inserter;
 mod rules;
 mod sources;
 mod target_rules;
+#[cfg(test)]
+mod tests;
 
 pub use fault::InsertFault;
 pub use inserter::{Given, Inserter, insert};
