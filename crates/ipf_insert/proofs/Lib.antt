@@ -10,3 +10,5 @@ pub mod Gathered
 pub mod Writable
 pub mod Standing
 pub mod NextElement
+pub mod Holding
+pub mod ChangedSlots
