@@ -23,7 +23,7 @@ few_units count n aus le = omega (arith, le, length-take count (drop n aus))
 
 module _ (s : Stream) (i : Settled) (targets : List ℕ) (h : Holds s i targets) where
   -- what a target becomes, as a relation on bits
-  pub target_at : (t : ℕ) → is_target targets t ≡ true → IsTarget i.config i.fade (units_before i.count t i.aus) (au_at i.aus t) (new_slot i.config i.fade (units_before i.count t i.aus) (au_at i.aus t))
+  target_at : (t : ℕ) → is_target targets t ≡ true → IsTarget i.config i.fade (units_before i.count t i.aus) (au_at i.aus t) (new_slot i.config i.fade (units_before i.count t i.aus) (au_at i.aus t))
   target_at t is =
       let k = one_kept i targets t h.kept is in
       let f = frame_at i.config i.aus t h.frames k.below in
@@ -31,11 +31,14 @@ module _ (s : Stream) (i : Settled) (targets : List ℕ) (h : Holds s i targets)
       (frames_part i.config i.aus i.count (t - i.count) h.frames) (slots_part i.aus i.count (t - i.count) h.slots)
       (few_units i.count (t - i.count) i.aus h.listed.count) h.listed.short (few_bytes i t k.units)
 
+  pub target_here : (t : ℕ) (au : List ℕ) → au ≡ au_at i.aus t → is_target targets t ≡ true → IsTarget i.config i.fade (units_before i.count t i.aus) au (new_slot i.config i.fade (units_before i.count t i.aus) au)
+  target_here t au here is = subst (λ (x : List ℕ). IsTarget i.config i.fade (units_before i.count t i.aus) x (new_slot i.config i.fade (units_before i.count t i.aus) x)) (sym here) (target_at t is)
+
   slot_of : (t : ℕ) (au : List ℕ) → au ≡ au_at i.aus t → IsSlot (is_target targets t) i t au (slot_in i targets t au)
   slot_of t au here = by_target (is_target targets t) refl
     where
       by_target : (b : Bool) → is_target targets t ≡ b → IsSlot b i t au (if b then new_slot i.config i.fade (units_before i.count t i.aus) au else au)
-      by_target true is = subst (λ (x : List ℕ). IsTarget i.config i.fade (units_before i.count t i.aus) x (new_slot i.config i.fade (units_before i.count t i.aus) x)) (sym here) (target_at t is)
+      by_target true is = target_here t au here is
       by_target false is = refl
 
   slots_of_element : (t : ℕ) (slots : List (List ℕ)) → IsHere i.aus t slots → AreSlots i targets t slots (slots_in i targets t slots)

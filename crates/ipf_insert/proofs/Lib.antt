@@ -12,3 +12,7 @@ pub mod Standing
 pub mod NextElement
 pub mod Holding
 pub mod ChangedSlots
+pub mod ChangedFrames
+pub mod ChangedStream
+pub mod KeptFrames
+pub mod CarriedFrames
