@@ -11,3 +11,9 @@ pub mod Writable
 pub mod Standing
 pub mod NextElement
 pub mod OneElement
+pub mod Holding
+pub mod ChangedSlots
+pub mod ChangedFrames
+pub mod ChangedStream
+pub mod KeptFrames
+pub mod CarriedFrames

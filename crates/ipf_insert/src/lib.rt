@@ -9,6 +9,7 @@ mod changing;
 mod fault;
 mod gathering;
 mod inserter;
+pub mod laws;
 mod rules;
 mod sources;
 mod target_rules;
