@@ -1,5 +1,5 @@
 -- What a target becomes is the relation on bits.
-use Rattle.std.proofs.Common.{◌≡◌, ℕ, List, Bool, Option, Some, ap, ◌∙◌}
+use Rattle.std.proofs.Common.{◌≡◌, ℕ, List, Bool, Option, ap, ◌∙◌}
 use Rattle.layout.specs.Text.{bits_of, pad}
 use Rattle.usac_cfg.specs.declared.usac_config.UsacConfig.{UsacConfig}
 use Rattle.usac_frame.specs.declared.frame.Frame.{Frame}

@@ -1,5 +1,5 @@
 -- A frame that is written with another part 0: what it is read as, and its unit.
-use Rattle.std.proofs.Common.{◌≡◌, ℕ, ◌+◌, ◌-◌, ◌%◌, Bool, false, List, [], ◌∷◌, ◌++◌, length, drop, replicate, Option, refl, sym, ap, subst, ◌∙◌, append_assoc}
+use Rattle.std.proofs.Common.{◌≡◌, ℕ, ◌-◌, ◌%◌, Bool, false, List, [], ◌∷◌, ◌++◌, length, drop, replicate, Option, refl, sym, ap, subst, ◌∙◌, append_assoc}
 use Rattle.std.specs.Prelude.{true, if◌then◌else◌}
 use Rattle.layout.specs.Text.{bits_of, pad}
 use Rattle.layout.proofs.Layouts.{some_is}

@@ -1,4 +1,4 @@
-use Rattle.std.proofs.Common.{◌<◌, ◌≤◌, List, [], ℕ, length, Bor, arith}
+use Rattle.std.proofs.Common.{List, [], ℕ, Bor, arith}
 use Rattle.ipf_frame.proofs.Payloads.{frame_at, slot_at}
 use Rattle.ipf_frame.proofs.payload.clean_each.Goals as goal
 

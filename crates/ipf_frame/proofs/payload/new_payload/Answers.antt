@@ -1,4 +1,4 @@
-use Rattle.std.proofs.Common.{◌≡◌, ◌≤◌, List, ℕ, length, Bor, sym, subst, ◌∙◌}
+use Rattle.std.proofs.Common.{◌≤◌, List, ℕ, Bor, sym, subst, ◌∙◌}
 use Rattle.std.specs.Prelude.{map}
 use Rattle.std.proofs.lemmas.List.{length-map}
 use Rattle.ipf_frame.proofs.Payloads.{made_preroll, made_well_formed, payload_back}
