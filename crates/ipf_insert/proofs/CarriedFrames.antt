@@ -13,12 +13,12 @@ use Rattle.latm.specs.Stream.{IsWellFormed, frames_of, config_in, au_in}
 use Rattle.ipf_frame.specs.Laws.{FirstIndependent}
 use Rattle.ipf_frame.specs.Slot.{new_slot}
 use Rattle.ipf_frame.proofs.CarriedUnits as carried
-use Rattle.ipf_insert.specs.Inserting.{Settled, units_before, is_target, slot_in, stream_in}
+use Rattle.ipf_insert.specs.Inserting.{Settled, units_before, is_target, stream_in}
 use Rattle.ipf_insert.specs.Laws.{unit_of_frame, CarriesUnits, TargetsCarry}
 use Rattle.ipf_insert.specs.Rules.{au_at}
-use Rattle.ipf_insert.proofs.ChangedFrames.{frame_new, frames_in, frames_are, in_at}
+use Rattle.ipf_insert.proofs.ChangedFrames.{frame_new, frames_are, in_at}
 use Rattle.ipf_insert.proofs.ChangedSlots.{target_here}
-use Rattle.ipf_insert.proofs.Holding.{Holds, Passed, passed_all}
+use Rattle.ipf_insert.proofs.Holding.{Holds, passed_all}
 use Rattle.ipf_insert.proofs.Kept.{one_kept, independent}
 
 abbrev Pair : Type 0
@@ -95,7 +95,7 @@ module _ (s : Stream) (i : Settled) (targets : List ℕ) (h : Holds s i targets)
   carries w =
       let units = units_part i.config (frames_of s) i.aus i.count (t - i.count) h.same h.aus in
       let at_units : CarriesUnits (Some (i.config, made (au_in frame_there.0))) i.fade (take i.count (drop (t - i.count) (map unit_of_frame (frames_of s)))) =
-          subst (λ (us : List UnitValue). CarriesUnits (Some (i.config, made (au_in frame_there.0))) i.fade us) (sym units) carries_here in
+      subst (λ (us : List UnitValue). CarriesUnits (Some (i.config, made (au_in frame_there.0))) i.fade us) (sym units) carries_here in
       subst (λ (o : Option Pair). CarriesUnits o i.fade (take i.count (drop (t - i.count) (map unit_of_frame (frames_of s))))) (sym (target_is w)) at_units
 
 pub targets_carry : TargetsCarry
@@ -104,6 +104,6 @@ targets_carry s count fade targets t w e is =
     let i = p.shared in
     let there : CarriesUnits (slice_get (frames_of (stream_in (Some i) targets s)) t) i.fade (take i.count (drop (t - i.count) (map unit_of_frame (frames_of s)))) = carries s i targets p.holds t is w in
     let named : CarriesUnits (slice_get (frames_of (stream_in (Some i) targets s)) t) fade (take count (drop (t - count) (map unit_of_frame (frames_of s)))) =
-        subst (λ (b : Bool). CarriesUnits (slice_get (frames_of (stream_in (Some i) targets s)) t) b (take count (drop (t - count) (map unit_of_frame (frames_of s))))) p.fade_is
-        (subst (λ (n : ℕ). CarriesUnits (slice_get (frames_of (stream_in (Some i) targets s)) t) i.fade (take n (drop (t - n) (map unit_of_frame (frames_of s))))) p.count_is there) in
+    subst (λ (b : Bool). CarriesUnits (slice_get (frames_of (stream_in (Some i) targets s)) t) b (take count (drop (t - count) (map unit_of_frame (frames_of s))))) p.fade_is
+    (subst (λ (n : ℕ). CarriesUnits (slice_get (frames_of (stream_in (Some i) targets s)) t) i.fade (take n (drop (t - n) (map unit_of_frame (frames_of s))))) p.count_is there) in
     subst (λ (o : Option Settled). CarriesUnits (slice_get (frames_of (stream_in o targets s)) t) fade (take count (drop (t - count) (map unit_of_frame (frames_of s))))) (sym p.found) named

@@ -1,9 +1,7 @@
 -- Nothing but the slots of the targets changes.
-use Rattle.std.proofs.Common.{◌≡◌, ℕ, zero, suc, ◌+◌, ◌-◌, ◌<◌, ◌≤◌, Bool, true, false, List, [], ◌∷◌, ◌++◌, length, take, drop, Option, Some, None, refl, sym, ap, subst, ◌∙◌, arith}
+use Rattle.std.proofs.Common.{◌≡◌, ℕ, suc, ◌+◌, ◌-◌, ◌≤◌, Bool, true, false, List, [], ◌∷◌, length, take, drop, Option, refl, sym, subst, arith}
 use Rattle.std.specs.Prelude.{if◌then◌else◌}
 use Rattle.std.proofs.lemmas.List.{length-take}
-use Rattle.usac_frame.specs.declared.frame.Frame.{Frame}
-use Rattle.usac_frame.specs.AccessUnit.{IsFrame}
 use Rattle.latm.specs.declared.mux_element.MuxElement.{MuxElement}
 use Rattle.latm.specs.declared.stream.Stream.{Stream}
 use Rattle.ipf_frame.specs.Slot.{new_slot, IsTarget}
@@ -14,7 +12,7 @@ use Rattle.ipf_insert.specs.Relation.{IsSlot, AreSlots, AreElements, AreInserted
 use Rattle.ipf_insert.specs.Rules.{au_at}
 use Rattle.ipf_insert.specs.Steps.{IsHere, IsFrom}
 use Rattle.ipf_insert.proofs.Here.{here_at, here_on, frame_at, frames_part, slots_part}
-use Rattle.ipf_insert.proofs.Holding.{Holds, Passed, passed_all}
+use Rattle.ipf_insert.proofs.Holding.{Holds, passed_all}
 use Rattle.ipf_insert.proofs.Kept.{one_kept, open_frame, few_bytes}
 use Rattle.ipf_insert.proofs.Seeking.{here_first, from_behind}
 
@@ -43,15 +41,17 @@ module _ (s : Stream) (i : Settled) (targets : List ℕ) (h : Holds s i targets)
 
   slots_of_element : (t : ℕ) (slots : List (List ℕ)) → IsHere i.aus t slots → AreSlots i targets t slots (slots_in i targets t slots)
   slots_of_element t [] here = tt
-  slots_of_element t (au ∷ slots) here =
-      (slot_of t au (here_at i.aus (au ∷ slots) t au slots refl here),
-       slots_of_element (suc t) slots (subst (λ (n : ℕ). IsHere i.aus n slots) (let n : t + 1 ≡ suc t = omega arith in n) (here_on i.aus (au ∷ slots) t au slots refl here)))
+  slots_of_element t (au ∷ slots) here = (
+    slot_of t au (here_at i.aus (au ∷ slots) t au slots refl here),
+    slots_of_element (suc t) slots (subst (λ (n : ℕ). IsHere i.aus n slots) (let n : t + 1 ≡ suc t = omega arith in n) (here_on i.aus (au ∷ slots) t au slots refl here)),
+  )
 
   elements_of : (t : ℕ) (es : List MuxElement) → IsFrom i.aus t es → AreElements i targets t es (elements_in i targets t es)
   elements_of t [] from = tt
-  elements_of t (e ∷ es) from =
-      (record { config = refl; slots = slots_of_element t e.slots (here_first i.aus e es t from); other = refl; tail = refl },
-       elements_of (t + length e.slots) es (from_behind i.aus e es t from))
+  elements_of t (e ∷ es) from = (
+    record { config = refl; slots = slots_of_element t e.slots (here_first i.aus e es t from); other = refl; tail = refl },
+    elements_of (t + length e.slots) es (from_behind i.aus e es t from),
+  )
 
 pub only_targets : OnlyTargetsChange
 only_targets s count fade targets w e =

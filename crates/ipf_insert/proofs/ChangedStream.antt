@@ -1,5 +1,5 @@
 -- What is made is a well formed stream.
-use Rattle.std.proofs.Common.{◌≡◌, ℕ, suc, ◌+◌, ◌<◌, ◌^◌, Bool, true, false, List, [], ◌∷◌, length, Option, Some, None, refl, sym, ap, subst, ◌∙◌, arith}
+use Rattle.std.proofs.Common.{◌≡◌, ℕ, suc, ◌+◌, ◌<◌, Bool, true, false, List, [], ◌∷◌, length, Option, Some, None, refl, sym, ap, subst, arith}
 use Rattle.std.specs.Prelude.{if◌then◌else◌}
 use Rattle.std.specs.List.{AllByRecursion}
 use Rattle.usac_cfg.specs.declared.usac_config.UsacConfig.{UsacConfig}
@@ -21,7 +21,7 @@ use Rattle.ipf_insert.specs.Inserting.{Settled, units_before, is_target, slot_in
 use Rattle.ipf_insert.specs.Laws.{StaysWellFormed}
 use Rattle.ipf_insert.proofs.ChangedFrames.{frames_are, in_length}
 use Rattle.ipf_insert.proofs.Elements.{small_slots, with_slots_is}
-use Rattle.ipf_insert.proofs.Holding.{Holds, Passed, passed_all}
+use Rattle.ipf_insert.proofs.Holding.{Holds, passed_all}
 
 abbrev AreBytes : List ℕ → Type 0
 AreBytes au = AllByRecursion (λ b. b < 256) au
@@ -60,9 +60,10 @@ module _ (i : Settled) (targets : List ℕ) where
 
   elements_are : (t : ℕ) (before : Option MuxConfig) (es : List MuxElement) → AreElements before es → AllByRecursion IsWritable (elements_in i targets t es) → AreElements before (elements_in i targets t es)
   elements_are t before [] h w = tt
-  elements_are t before (e ∷ es) h w =
-      (with_slots_is before e (slots_in i targets t e.slots) h.0 (as_many t e.slots) (slots_small t e.slots (small_slots before e h.0)) w.0.few,
-       elements_are (t + length e.slots) (then_in_force before e.config) es h.1 w.1)
+  elements_are t before (e ∷ es) h w = (
+    with_slots_is before e (slots_in i targets t e.slots) h.0 (as_many t e.slots) (slots_small t e.slots (small_slots before e h.0)) w.0.few,
+    elements_are (t + length e.slots) (then_in_force before e.config) es h.1 w.1,
+  )
 
 made : (s : Stream) (i : Settled) (targets : List ℕ) → IsWellFormed s → Holds s i targets → IsWellFormed (stream_in (Some i) targets s)
 made s i targets w h = record {

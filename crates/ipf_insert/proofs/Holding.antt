@@ -1,12 +1,11 @@
 -- What is known of an insertion that no rule refuses.
-use Rattle.std.proofs.Common.{◌≡◌, ℕ, Bool, List, [], ◌∷◌, map, Option, Some, None, refl, sym, ap, subst, ◌∙◌}
+use Rattle.std.proofs.Common.{◌≡◌, ℕ, Bool, List, [], ◌∷◌, map, Option, Some, None, refl, sym, subst, ◌∙◌}
 use Rattle.std.specs.List.{AllByRecursion}
 use Rattle.usac_cfg.specs.declared.usac_config.UsacConfig.{UsacConfig}
 use Rattle.usac_cfg.specs.UsacConfig.{IsWellFormed as IsConfig}
 use Rattle.latm.specs.declared.stream.Stream.{Stream}
 use Rattle.latm.specs.Stream.{IsWellFormed, frames_of, config_in, au_in}
 use Rattle.ipf_frame.specs.Laws.{AreFrames, AreSlots}
-use Rattle.ipf_insert.specs.declared.fault.InsertFault.{InsertFault}
 use Rattle.ipf_insert.specs.declared.fault.InsertFault.TheVariants.{NotDeclared}
 use Rattle.ipf_insert.specs.Giving.{IsWritable}
 use Rattle.ipf_insert.specs.Inserting.{Settled, settled_of, elements_in}

@@ -1,5 +1,5 @@
 -- Each frame keeps its configuration and its unit.
-use Rattle.std.proofs.Common.{◌≡◌, ℕ, suc, ◌+◌, Bool, true, false, List, [], ◌∷◌, ◌++◌, length, map, drop, Option, Some, None, refl, sym, ap, subst, ◌∙◌, append-nil, arith}
+use Rattle.std.proofs.Common.{◌≡◌, ℕ, suc, ◌+◌, Bool, true, false, List, [], ◌∷◌, map, Option, Some, None, refl, sym, ap, subst, ◌∙◌, append-nil, arith}
 use Rattle.std.specs.Prelude.{if◌then◌else◌}
 use Rattle.std.specs.List.{AllByRecursion}
 use Rattle.usac_cfg.specs.declared.usac_config.UsacConfig.{UsacConfig}
@@ -16,7 +16,7 @@ use Rattle.ipf_insert.specs.Steps.{IsHere}
 use Rattle.ipf_insert.proofs.ChangedFrames.{frames_in, frames_are, in_configs}
 use Rattle.ipf_insert.proofs.ChangedSlots.{target_here}
 use Rattle.ipf_insert.proofs.Here.{here_at, here_on}
-use Rattle.ipf_insert.proofs.Holding.{Holds, Passed, passed_all}
+use Rattle.ipf_insert.proofs.Holding.{Holds, passed_all}
 
 abbrev Pair : Type 0
 Pair = UsacConfig × List ℕ

@@ -1,6 +1,5 @@
 -- A stream of one element, for the tests.
-use Rattle.std.proofs.Common.{◌≡◌, ℕ, ◌+◌, ◌*◌, ◌%◌, ◌^◌, ◌<◌, ◌≤◌, List, [], ◌∷◌, ◌++◌, length, map, Option, Some, None, refl, sym, ap, subst, ◌∙◌, append-nil, arith}
-use Rattle.std.specs.Prelude.{is_some}
+use Rattle.std.proofs.Common.{◌≡◌, ℕ, ◌*◌, ◌≤◌, List, [], ◌∷◌, length, Option, Some, None, sym, ap, subst, ◌∙◌, append-nil, arith}
 use Rattle.std.proofs.lemmas.List.{length-map}
 use Rattle.layout.specs.Text.{bits_of}
 use Rattle.layout.specs.Layout.{FitsOption}
@@ -9,7 +8,7 @@ use Rattle.latm.specs.declared.mux_config.MuxConfig.{MuxConfig}
 use Rattle.latm.specs.declared.mux_element.MuxElement.{MuxElement}
 use Rattle.latm.specs.declared.stream.Stream.{Stream}
 use Rattle.latm.specs.MuxConfig.{IsWellFormed as IsMux}
-use Rattle.latm.specs.MuxElement.{then_in_force, slot_count, opening, element}
+use Rattle.latm.specs.MuxElement.{then_in_force, slot_count, element}
 use Rattle.latm.specs.Stream.{IsElementOf, IsWellFormed, slots_from, au_in}
 use Rattle.latm.specs.Written.{element_text}
 use Rattle.ipf_insert.proofs.Elements.{aus_of}
