@@ -69,6 +69,15 @@ pub fn joined(alloc: Global, parts: &[&str]) -> Result<Vec<u8>, Fail> {
     Ok(bytes)
 }
 
+// So many bytes 0, as hexadecimal digits.
+pub fn zeros(alloc: Global, bytes: usize) -> Result<String, AllocError> {
+    let mut text = String::new(alloc);
+    for _ in 0..bytes {
+        text.push_str("00")?;
+    }
+    Ok(text)
+}
+
 // The bytes of lines.
 pub fn lines_of(alloc: Global, lines: &[&str]) -> Result<Vec<u8>, AllocError> {
     let mut bytes = Vec::new(alloc);

@@ -13,6 +13,8 @@ mod counted;
 #[cfg(test)]
 mod faults;
 #[cfg(test)]
+mod insert_rows;
+#[cfg(test)]
 mod plan_rows;
 #[cfg(test)]
 mod plays;

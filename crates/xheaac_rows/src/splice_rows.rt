@@ -1,11 +1,10 @@
 // Worked rows of `splice`.
 use crate::cases::Pieces::{Bytes, Large};
-use crate::cases::{Failing, NOTHING, Pieces, Row, USAGE, check_both, check_row, joined};
+use crate::cases::{Failing, NOTHING, Pieces, Row, USAGE, check_both, check_row, joined, zeros};
 use crate::streams::{
     BARE, BEFORE, BEHIND, CARRIES_BOTH, CARRIES_ONE, EMPTIED, FADED, FIRST, IMMEDIATE,
     IMMEDIATE_FRAME, JOIN, JOINED, OWN, PLAIN, TWO_SLOTS, TWO_SLOTS_REFUSED, VERSION_1,
 };
-use std::alloc::{AllocError, Global};
 use std::process::Abort;
 use std::test::Fail;
 use vectors::EIGHT_FRAMES;
@@ -267,15 +266,6 @@ const LONGEST_JOIN: &str =
 // A frame that goes on, whose access unit has 8158 bytes, of which the first is A0: its element has 8191 as well.
 const LONGEST_PLAYED: &str =
     "56FFFFFFFFFFFFFFFFFFFFFFFFFFFFFFFFFFFFFFFFFFFFFFFFFFFFFFFFFFFFFFFFFFFED0";
-
-// So many bytes 0, as hexadecimal digits.
-fn zeros(alloc: Global, bytes: usize) -> Result<String, AllocError> {
-    let mut text = String::new(alloc);
-    for _ in 0..bytes {
-        text.push_str("00")?;
-    }
-    Ok(text)
-}
 
 fn splicing<'a>(file: &'a [&'a str], more: &'a [&'a str], note: &'a str) -> Row<'a> {
     Row {

@@ -1,0 +1,9 @@
+pub mod WrittenFrames
+pub mod NewParts
+pub mod BareFrames
+pub mod KeptUnits
+pub mod CarriedUnits
+pub mod Undone
+pub mod CleanBytes
+pub mod Payloads
+pub mod Targets

@@ -1,0 +1,7 @@
+pub mod Faults
+pub mod Inserting
+pub mod Rules
+pub mod Relation
+pub mod Laws
+pub mod Steps
+pub mod Giving
