@@ -1,8 +1,8 @@
 -- Elements that are written one after another.
-use Rattle.std.proofs.Common.{◌≡◌, ℕ, ◌<◌, List, [], ◌∷◌, ◌++◌, length, Some, None, Result, Ok, Err, refl, sym, ap, subst, ◌∙◌, arith}
+use Rattle.std.proofs.Common.{◌≡◌, ℕ, ◌<◌, List, [], ◌∷◌, ◌++◌, length, Some, None, Ok, Err, refl, sym, ap, subst, ◌∙◌, arith}
 use Rattle.std.specs.declared.option.Option.{Option}
 use Rattle.std.specs.Io.KnownBytes.{append_known}
-use Rattle.std.proofs.lemmas.List.{length-append, append-nil, append_assoc}
+use Rattle.std.proofs.lemmas.List.{length-append, append_assoc}
 use Rattle.latm.specs.declared.mux_element.MuxElement.{MuxElement}
 use Rattle.commands.specs.declared.frame_end.FrameEnd.{FrameEnd}
 use Rattle.commands.specs.declared.frame_end.FrameEnd.TheVariants as ends
@@ -49,9 +49,3 @@ some_run (e ∷ es) some = omega (arith, some_bytes e, length-append (frame_of e
 -- There was no memory before an element that is still to be given.
 pub stopped_before : (before mid : Option (List ℕ)) (bytes : List ℕ) (es : List MuxElement) → HandedOver before mid bytes (run_of es) → 0 < length es → WroteLess before mid bytes
 stopped_before before mid bytes es held some = handed-stopped before mid mid bytes (run_of es) held (some_run es some) refl
-
--- All was written.
-pub all_written : (before now : Option (List ℕ)) (bytes : List ℕ) (es : List MuxElement) → HandedOver before now bytes (run_of es) → es ≡ [] → now ≡ append_known before bytes
-all_written before now bytes es held none =
-    let whole : bytes ≡ held.done = held.all ∙ (ap (λ (xs : List MuxElement). held.done ++ run_of xs) none ∙ append-nil held.done) in
-    held.grown ∙ ap (λ (xs : List ℕ). append_known before xs) (sym whole)

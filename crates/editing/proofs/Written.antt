@@ -1,21 +1,25 @@
 -- The bytes of the LOAS frame of an element.
-use Rattle.std.proofs.Common.{◌≡◌, ℕ, zero, suc, ◌+◌, ◌*◌, ◌/◌, ◌%◌, ◌<◌, ◌≤◌, Bool, List, [], ◌∷◌, ◌++◌, length, take, Some, None, Result, Ok, Err, All, refl, sym, ap, subst, ◌∙◌, arith}
+use Rattle.std.proofs.Common.{◌≡◌, ℕ, zero, suc, ◌/◌, ◌%◌, ◌<◌, ◌≤◌, Bool, List, [], ◌∷◌, ◌++◌, length, Some, None, Ok, Err, All, refl, sym, ap, subst, ◌∙◌, arith}
 use Rattle.std.specs.declared.option.Option.{Option}
 use Rattle.std.specs.Io.KnownBytes.{append_known}
 use Rattle.std.proofs.lemmas.List.{length-append, append-nil}
 use Rattle.std.proofs.lemmas.List.Elements.{All-append}
 use Rattle.layout.specs.Text.{bits_of}
-use Rattle.layout.proofs.TextLemmas.{bits_of-append, length-bits_of}
+use Rattle.layout.proofs.TextLemmas.{bits_of-append}
 use Rattle.loas.specs.Framing.{header, framed}
 use Rattle.latm.specs.Bytes.{bytes_of}
 use Rattle.latm.specs.Written.{element_text, Frames}
 use Rattle.latm.proofs.ByteTexts.{length-bytes_of, bits_of-bytes_of, bytes_of-small, bytes_back}
+use Rattle.latm.specs.declared.mux_config.MuxConfig.{MuxConfig}
 use Rattle.latm.specs.declared.mux_element.MuxElement.{MuxElement}
+use Rattle.latm.specs.MuxElement.{then_in_force}
+use Rattle.latm.specs.Stream.{AreElements}
+use Rattle.au_stream.specs.Written.{IsWritten, AreWritten}
 use Rattle.outside.specs.declared.fault.DeviceFault.{DeviceFault}
 use Rattle.outside.specs.declared.fault.DeviceFault.TheVariants as devices
 use Rattle.commands.specs.Handing.{WroteLess}
 use Rattle.commands.specs.OneFrame.{from_device}
-use Rattle.editing.specs.Runs.{frame_of, WritesBytes}
+use Rattle.editing.specs.Runs.{frame_of, run_of, WritesBytes, WritesRuns}
 
 header_small : (n : ℕ) → n ≤ 8191 → All (λ byte. byte < 256) (header n)
 header_small n le zero d lt = omega arith
@@ -51,6 +55,22 @@ frame_there e frame slice same whole small made = frame_is e slice whole small (
 pub some_bytes : (e : MuxElement) → 0 < length (frame_of e)
 unfolding frame_of
 some_bytes e = omega (arith, length-append (header (length (bytes_of (element_text e)))) (bytes_of (element_text e)))
+
+-- ---- all elements of a stream
+
+is_written : (e : MuxElement) → length (element_text e) % 8 ≡ 0 → length (element_text e) ≤ 65528 → IsWritten e (frame_of e)
+unfolding frame_of
+is_written e whole few = record {
+  bytes = framed_small (element_text e) whole few;
+  frames = record { ok = (framed_bits (element_text e) whole, few); err = tt };
+}
+
+are_written : (before : Option MuxConfig) (es : List MuxElement) → AreElements before es → AreWritten es (run_of es)
+are_written before [] are = refl
+are_written before (e ∷ es) are = (frame_of e, run_of es, is_written e are.0.whole are.0.few, refl, are_written (then_in_force before e.config) es are.1)
+
+pub runs_written : WritesRuns
+runs_written stream fits = are_written None stream.elements fits.elements
 
 append_none : (known : Option (List ℕ)) → known ≡ append_known known []
 append_none None = refl

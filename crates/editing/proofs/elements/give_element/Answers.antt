@@ -1,9 +1,6 @@
-use Rattle.std.proofs.Common.{ℕ, List, All, ap, sym, subst, ◌∙◌, ◌<◌}
+use Rattle.std.proofs.Common.{ℕ, List, ap, ◌∙◌}
 use Rattle.std.specs.Io.KnownBytes.{append_known}
 use Rattle.std.proofs.lemmas.Result.{err_from_is_err_and}
-use Rattle.commands.specs.Handing.{WroteLess}
-use Rattle.latm.specs.Written.{Frames}
-use Rattle.editing.specs.Runs.{frame_of}
 use Rattle.editing.proofs.Written.{frame_there, some_bytes, nothing_yet, device_stopped, less_of}
 use Rattle.editing.proofs.elements.give_element.Goals as goal
 
