@@ -1,1 +1,3 @@
 pub mod Multiples
+pub mod Written
+pub mod Running

@@ -1,1 +1,4 @@
 pub mod TargetLists
+pub mod Runs
+pub mod InsertRefusals
+pub mod Inserting

@@ -1,9 +1,27 @@
-//! What holds of targets.
+//! What holds of targets, and of what is written of a stream.
 //!
-//! The functions run no code; their contracts are the theorems.
+//! The functions run no code but that of other laws; their contracts are the theorems.
+ghost use Rattle.editing.specs.Inserting.{ReadsInserted};
+ghost use Rattle.editing.specs.Runs.{WritesRuns};
 ghost use Rattle.editing.specs.TargetLists.{ListsMultiples};
+
+use au_stream::laws::written_streams_are_read_back;
+use ipf_insert::laws::inserted_is_well_formed;
 
 /// The targets of `every:N` are exactly the multiples of N from N on that are numbers of frames, each one once, in rising order.
 pub fn every_lists_multiples()
     ensures { ListsMultiples }
 {}
+
+/// The bytes of elements, a LOAS frame each, are what is written of a well formed stream.
+pub fn runs_are_written()
+    ensures { WritesRuns }
+{}
+
+/// What `insert` writes of a stream is read again as the stream with its targets inserted.
+pub fn inserted_bytes_are_read_back()
+    ensures { ReadsInserted }
+{
+    inserted_is_well_formed();
+    written_streams_are_read_back();
+}

@@ -1,9 +1,14 @@
 //! Commands that change a stream as a whole: it is read to its end, and nothing is written before all rules hold.
 //!
-//! [`Targets`] are the frames that such a command is asked to change. [`laws`] says which frames `every:N` means.
+//! [`Insert`] makes immediate play-out frames of frames of a stream. [`Targets`] are the frames that such a command is asked to
+//! change, and [`laws`] says which ones `every:N` means.
 #![tactic(auto)]
 
+mod elements;
+mod insert;
+mod insert_refusal;
 pub mod laws;
 mod targets;
 
+pub use insert::Insert;
 pub use targets::Targets;
