@@ -15,7 +15,7 @@ TRIED = [
     *([count, "1", "every:5"] for count in ("0", "3", "18", "19", "4294967295", "4294967296", 18 * "9")),
 ]
 # of streams that are made of this one by turning bits and cutting
-CHANGED, WITH = "bare", ["1", "1", "4,6"]
+CHANGED, WITH = "bare.loas", ["1", "1", "4,6"]
 # words that are no case
 WRONG = (["1", "0"], ["1", "2", "4"], ["1", "0", "4,"], ["1", "0", ",4"], ["1", "0", "4,,5"], ["1", "0", "every:0"], ["1", "0", "every:"],
          ["1", "0", "4, 5"], ["+1", "0", "4"], ["1", "00", "4"], ["1", "0", "every:1,2"], ["1", "0", 19 * "9"], ["1", "0", ""], ["1", "0", "4", "5"])
