@@ -38,14 +38,12 @@ const TWO_SLOTS: &[&str] = &[
 ];
 
 const TWO_TARGETS: &[&str] = &[
-    "56E0202080F94623211CC018E400023FC01A00FC1903211CC018E4000212000341800",
-    "056E01380D007E0C81908E600C720001090001A0C0000",
+    "56E0202080F94623211CC018E400023FC01A00FC1903211CC018E40002120003418000",
+    "56E01380D007E0C81908E600C720001090001A0C0000",
 ];
 
 // The access units A0 and B0 in a mux of version 1 with 5 bits of other data: 10101, and 01010.
-const VERSION_1: &[&str] = &[
-    "56E01758000007FC00027FCA311908E600C7200011FF0140341556E00380D828",
-];
+const VERSION_1: &[&str] = &["56E01758000007FC00027FCA311908E600C7200011FF0140341556E00380D828"];
 
 const VERSION_1_TARGET: &[&str] = &[
     "56E01758000007FC00027FCA311908E600C7200011FF0140341556E01187E0C81908E600C720001090001A0C0028",
@@ -71,7 +69,12 @@ const ROWS: &[Inserted] = &[
     (["1", "1", "1,3"], TWO_SLOTS, TWO_TARGETS, ""),
     (["1", "1", "1"], VERSION_1, VERSION_1_TARGET, ""),
     (["1", "0", "1"], SPREAD, SPREAD_TARGET, ""),
-    (["1", "0", "5"], BARE, &[], "refused: frame 5: not independent\n"),
+    (
+        ["1", "0", "5"],
+        BARE,
+        &[],
+        "refused: frame 5: not independent\n",
+    ),
     (["5", "0", "4"], BARE, &[], "refused: frame 4: too early\n"),
     (["1", "0", "8"], BARE, &[], "refused: bad target 0\n"),
     (["1", "0", "4,4"], BARE, &[], "refused: bad target 1\n"),
@@ -96,7 +99,12 @@ const ROWS: &[Inserted] = &[
         &[],
         "refused: frame 4: already present\n",
     ),
-    (["1", "0", "0"], PLAIN, &[], "refused: preroll not declared\n"),
+    (
+        ["1", "0", "0"],
+        PLAIN,
+        &[],
+        "refused: preroll not declared\n",
+    ),
     (["1", "0", "0"], &[], &[], "refused: preroll not declared\n"),
     (
         ["1", "0", "every:1"],
@@ -117,7 +125,12 @@ const ROWS: &[Inserted] = &[
         &[],
         "refused: frame 4 bit 0: frame too short\n",
     ),
-    (["0", "0", "9"], &[OWN, "56E0"], &[], "refused: byte 37: truncated\n"),
+    (
+        ["0", "0", "9"],
+        &[OWN, "56E0"],
+        &[],
+        "refused: byte 37: truncated\n",
+    ),
 ];
 
 // The words behind the file where they are no case.
@@ -156,19 +169,19 @@ const LENGTHS: &[(&'static str, usize, &'static str, &'static str)] = &[
         "56E1012000F94623211CC018E400023FCF2A",
         242,
         "56E00380D800",
-        "56E103FF80EFD81908E600C7200010100F2A0",
+        "56E103FF80EFD81908E600C7200010100F2A",
     ),
     (
         "56E1022000F94623211CC018E400023FCF3A",
         243,
         "56E00380D800",
-        "56E104FF816FE81908E600C7200010100F3A0",
+        "56E104FF816FE81908E600C7200010100F3A",
     ),
     (
         "56E1032000F94623211CC018E400023FCF4A",
         244,
         "56E00380D800",
-        "56E107FF82EFF000281908E600C7200010100F4A0",
+        "56E107FF82EFF000281908E600C7200010100F4A",
     ),
 ];
 
@@ -178,7 +191,7 @@ fn check_lengths(rt: &(impl Abort + AllocGlobal)) -> Result<(), Fail> {
         let unit = zeros(alloc, *count)?;
         let carried = zeros(alloc, count - 1)?;
         let file = [*front, unit.as_str(), *bare];
-        let wanted = [*front, unit.as_str(), *target, carried.as_str(), "C0000"];
+        let wanted = [*front, unit.as_str(), *target, carried.as_str(), "0C0000"];
         let row = inserting(&["insert", "in", "1", "0", "1"], &file, "");
         check_row(rt, Large, &row, &joined(alloc, &wanted)?)?;
     }
@@ -196,9 +209,9 @@ fn check_long(rt: &(impl Abort + AllocGlobal)) -> Result<(), Fail> {
     let unit = zeros(alloc, 8000)?;
     let mut file = Vec::new(alloc);
     file.extend_from_slice(&[
-        "56FF092000F94623211CC018E400023FC",
+        "56FF092000F94623211CC018E400023FCF",
         ONES,
-        "FFFFFFFFFFFFFFFFFFFFFFFFFFFFFAA",
+        "FFFFFFFFFFFFFFFFFFFFFFFFFFFFAA",
         first.as_str(),
     ])?;
     for _ in 0..8 {
