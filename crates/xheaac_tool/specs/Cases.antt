@@ -3,6 +3,7 @@ use Rattle.std.specs.Prelude.{[]}
 use Rattle.core_iface.specs.Decoding.{Definitions}
 use Rattle.commands.specs.Calling.{Effect}
 use Rattle.commands.specs.OnInput.{on_file}
+use Rattle.commands.specs.Wholes.{on_whole}
 use Rattle.playing.specs.Playing.{playing}
 use Rattle.playing.specs.Starting.{starting}
 use Rattle.xheaac_tool.specs.Showing.{showing}
@@ -10,7 +11,8 @@ use Rattle.xheaac_tool.specs.Checking.{checking}
 use Rattle.joining.specs.Planning.{plans_files}
 use Rattle.joining.specs.Splicing.{splices_files}
 use Rattle.switching.specs.Switching.{switches_files}
-use Rattle.xheaac_tool.specs.Words.{Case, Show, Check, Play, Start, Plan, Splice, Switch, positions_of}
+use Rattle.editing.specs.Inserting.{inserting}
+use Rattle.xheaac_tool.specs.Words.{Case, Show, Check, Play, Start, Plan, Splice, Switch, Insert, positions_of}
 
 abbrev pub effect_of : Definitions → Case → Effect
 effect_of d (Show file) = on_file showing
@@ -20,3 +22,4 @@ effect_of d (Start file frame) = on_file (starting d frame)
 effect_of d (Plan pieces) = plans_files d (positions_of pieces)
 effect_of d (Splice pieces) = splices_files d (positions_of pieces)
 effect_of d (Switch pieces) = switches_files d (positions_of pieces)
+effect_of d (Insert file count fade targets) = on_whole (inserting count fade targets)

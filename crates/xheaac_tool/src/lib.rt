@@ -2,16 +2,18 @@
 //! the command line, does what they ask for, and answers the status. Its contract says, from the bytes
 //! of the files alone, what was written, what was noted and which status is answered; and where a device
 //! or the core fails, what was written before. [`do_show`], [`do_check`], [`do_play`], [`do_start`],
-//! [`do_plan`], [`do_splice`] and [`do_switch`] are the commands without their note, for a program that
-//! has its own.
+//! [`do_plan`], [`do_splice`], [`do_switch`] and [`do_insert`] are the commands without their note, for a
+//! program that has its own.
 //!
-//! What they share is the crate `commands`: its runners go over the frames of a file for any task. The
-//! tasks are `show_task` and `check_task`, in the crate `playing` those of `play` and `start`, and in
-//! the crate `joining` those of `plan` and `splice`, and in the crate `switching` that of `switch`.
+//! What they share is the crate `commands`: its runners go over the frames of a file for any task, or read
+//! it whole. The tasks are `show_task` and `check_task`, in the crate `playing` those of `play` and `start`,
+//! in the crate `joining` those of `plan` and `splice`, and in the crate `switching` that of `switch`. The
+//! crate `editing` has `insert`, which reads its file whole.
 #![tactic(auto)]
 
 mod check;
 mod check_task;
+mod insert;
 mod listing;
 mod numbers;
 mod piece_words;
@@ -22,12 +24,14 @@ mod show_task;
 mod splice;
 mod start;
 mod switch;
+mod target_words;
 mod top;
 mod unit_frame;
 mod words;
 
 pub use check::do_check;
 pub use commands::Outcome;
+pub use insert::do_insert;
 pub use plan::do_plan;
 pub use play::do_play;
 pub use show::do_show;

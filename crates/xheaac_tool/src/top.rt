@@ -10,6 +10,7 @@ ghost use Rattle.xheaac_tool.specs.Answered.{Answered, AnsweredNone};
 ghost use Rattle.xheaac_tool.specs.Headline.{Promises};
 
 use crate::check::do_check;
+use crate::insert::do_insert;
 use crate::plan::do_plan;
 use crate::play::do_play;
 use crate::show::do_show;
@@ -51,6 +52,7 @@ fn do_asked<H: Shelf, K: Sink, C: Core>(
         Asked::Plan { .. } => do_plan(alloc, words, shelf, out, core),
         Asked::Splice { .. } => do_splice(alloc, words, shelf, out, core),
         Asked::Switch { .. } => do_switch(alloc, words, shelf, out, core),
+        Asked::Insert { .. } => do_insert(alloc, words, shelf, out, core),
     }
 }
 

@@ -23,13 +23,28 @@ pub enum WordsFault {
 /// What the words ask for.
 #[derive(Clone, Copy)]
 pub enum Asked<'a> {
-    Show { file: &'a str },
-    Check { file: &'a str },
-    Play { file: &'a str },
-    Start { file: &'a str, frame: u64 },
-    Plan { pieces: Pairs<'a> },
-    Splice { pieces: Pairs<'a> },
-    Switch { pieces: Pairs<'a> },
+    Show {
+        file: &'a str,
+    },
+    Check {
+        file: &'a str,
+    },
+    Play {
+        file: &'a str,
+    },
+    Start {
+        file: &'a str,
+        frame: u64,
+    },
+    Plan {
+        pieces: Pairs<'a>,
+    },
+    Splice {
+        pieces: Pairs<'a>,
+    },
+    Switch {
+        pieces: Pairs<'a>,
+    },
     Insert {
         file: &'a str,
         count: u32,

@@ -1,4 +1,4 @@
-use Rattle.std.proofs.Common.{ap, ◌∙◌}
+use Rattle.std.proofs.Common.{sym, ap, ◌∙◌}
 use Rattle.xheaac_tool.specs.Words.{texts, case_of}
 use Rattle.xheaac_tool.proofs.top.run_line.Goals as goal
 
@@ -15,3 +15,6 @@ returns-in-Ok-clause-promises g c =
       joins = λ pieces files asked held. promises.joins pieces files (same ∙ asked) held;
       programmes = λ pieces files asked held. promises.programmes pieces files (same ∙ asked) held;
     })
+
+pub returns-in-Ok-clause-answers : goal.returns-in-Ok-clause-answers
+returns-in-Ok-clause-answers g c = rw (c.in-Ok.is, sym c.deref.ensures.value) c.run.ensures.answers
