@@ -9,6 +9,8 @@ mod insert;
 mod insert_refusal;
 pub mod laws;
 mod targets;
+#[cfg(test)]
+mod tests;
 
 pub use insert::Insert;
 pub use targets::Targets;
