@@ -185,50 +185,69 @@ const LENGTHS: &[(&'static str, usize, &'static str, &'static str)] = &[
     ),
 ];
 
+fn check_length<'a>(
+    rt: &(impl Abort + AllocGlobal),
+    front: &'a str,
+    unit: &'a str,
+    bare: &'a str,
+    target: &'a str,
+    carried: &'a str,
+) -> Result<(), Fail> {
+    let file = [front, unit, bare];
+    let wanted = [front, unit, target, carried, "0C0000"];
+    let row = inserting(&["insert", "in", "1", "0", "1"], &file, "");
+    check_row(rt, Large, &row, &joined(rt.alloc(), &wanted)?)
+}
+
 fn check_lengths(rt: &(impl Abort + AllocGlobal)) -> Result<(), Fail> {
     let alloc = rt.alloc();
     for (front, count, bare, target) in LENGTHS {
+        assert!(rt; *count > 0);
         let unit = zeros(alloc, *count)?;
-        let carried = zeros(alloc, count - 1)?;
-        let file = [*front, unit.as_str(), *bare];
-        let wanted = [*front, unit.as_str(), *target, carried.as_str(), "0C0000"];
-        let row = inserting(&["insert", "in", "1", "0", "1"], &file, "");
-        check_row(rt, Large, &row, &joined(alloc, &wanted)?)?;
+        let carried = zeros(alloc, *count - 1)?;
+        check_length(rt, front, unit.as_str(), bare, target, carried.as_str())?;
     }
     Ok(())
 }
 
+// Where an access unit of 7900 bytes and a StreamMuxConfig begin.
+const NINE: &str =
+    "56FF092000F94623211CC018E400023FCFFFFFFFFFFFFFFFFFFFFFFFFFFFFFFFFFFFFFFFFFFFFFFFFFFFFFFFFFFFFFAA";
+
 // Ones of a length, as hexadecimal digits.
 const ONES: &str = "FFFFFFFFFFFFFFFFFFFFFFFFFFFFFFFF";
 
-// Nine frames of 7900 bytes and more: a preroll of eight of them makes an element too long, and one of nine has more than an
-// extension element can hold.
-fn check_long(rt: &(impl Abort + AllocGlobal)) -> Result<(), Fail> {
-    let alloc = rt.alloc();
-    let first = zeros(alloc, 7900)?;
-    let unit = zeros(alloc, 8000)?;
-    let mut file = Vec::new(alloc);
-    file.extend_from_slice(&[
-        "56FF092000F94623211CC018E400023FCF",
-        ONES,
-        "FFFFFFFFFFFFFFFFFFFFFFFFFFFFAA",
-        first.as_str(),
-    ])?;
-    for _ in 0..8 {
-        file.extend_from_slice(&[
-            "56FF61",
-            ONES,
-            "FFFFFFFFFFFFFFFFFFFFFFFFFFFFFFAFD0",
-            unit.as_str(),
-        ])?;
-    }
-    file.push("56E00380D800")?;
+// A preroll of eight of the nine frames before the target makes an element too long, and one of nine has more than an extension
+// element can hold.
+fn check_nine<'a>(
+    rt: &(impl Abort + AllocGlobal),
+    front: &'a str,
+    first: &'a str,
+    later: &'a str,
+    target: &'a str,
+) -> Result<(), Fail> {
+    let file = [front, first, later, target];
     let words = ["insert", "in", "9", "0", "9"];
     let row = inserting(&words, &file, "refused: frame 9: payload too long\n");
     check_row(rt, Large, &row, &[])?;
     let words = ["insert", "in", "8", "0", "9"];
     let row = inserting(&words, &file, "refused: frame 9: too long\n");
     check_row(rt, Large, &row, &[])
+}
+
+// Nine frames of 7900 bytes and more.
+fn check_long(rt: &(impl Abort + AllocGlobal)) -> Result<(), Fail> {
+    let alloc = rt.alloc();
+    let first = zeros(alloc, 7900)?;
+    let unit = zeros(alloc, 8000)?;
+    let mut later = String::new(alloc);
+    for _ in 0..8 {
+        later.push_str("56FF61")?;
+        later.push_str(ONES)?;
+        later.push_str("FFFFFFFFFFFFFFFFFFFFFFFFFFFFFFAFD0")?;
+        later.push_str(unit.as_str())?;
+    }
+    check_nine(rt, NINE, first.as_str(), later.as_str(), "56E00380D800")
 }
 
 // What is written where a read or a write fails, which come before all rules and behind them.
