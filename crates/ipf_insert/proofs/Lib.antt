@@ -11,6 +11,7 @@ pub mod Writable
 pub mod Standing
 pub mod NextElement
 pub mod OneElement
+pub mod Misplaced
 pub mod Holding
 pub mod ChangedSlots
 pub mod ChangedFrames
