@@ -1,7 +1,8 @@
-//! What an insertion keeps, of one target.
+//! What an insertion keeps, of one target, and what taking a preroll out keeps.
 //!
 //! The functions run no code; their contracts are the theorems.
 ghost use Rattle.ipf_frame.specs.Laws.{KeepsUnit, CleanUnitsStay, TargetsCarry, Undoes, CleanIsMade, TargetsAreMade};
+ghost use Rattle.ipf_frame.specs.StripLaws.{StrippedIsMade, StrippedUnitsStay, TargetsAreStripped, StrippedAreFew};
 
 /// A target has the unit that it had.
 pub fn targets_keep_their_unit()
@@ -31,4 +32,24 @@ pub fn clean_is_made()
 /// What a target becomes, where the rules of an insertion hold, is the relation on bits.
 pub fn targets_are_made()
     ensures { TargetsAreMade }
+{}
+
+/// What an access unit is without its preroll, where that may be taken out, is the relation on bits.
+pub fn stripped_is_made()
+    ensures { StrippedIsMade }
+{}
+
+/// Without its preroll an access unit has the unit that it had, and no preroll.
+pub fn stripped_units_stay()
+    ensures { StrippedUnitsStay }
+{}
+
+/// A target is an immediate play-out frame, and without its preroll it is the access unit that it was.
+pub fn targets_are_stripped()
+    ensures { TargetsAreStripped }
+{}
+
+/// Without its preroll an access unit is bytes, and no more than it had.
+pub fn stripped_are_few()
+    ensures { StrippedAreFew }
 {}
