@@ -1,0 +1,6 @@
+pub mod Faults
+pub mod Rules
+pub mod Stripping
+pub mod Relation
+pub mod Steps
+pub mod Laws
