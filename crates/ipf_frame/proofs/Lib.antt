@@ -8,3 +8,5 @@ pub mod CleanBytes
 pub mod Payloads
 pub mod Targets
 pub mod Spares
+pub mod LastZeros
+pub mod StrippedFrames
