@@ -10,3 +10,5 @@ pub mod Targets
 pub mod Spares
 pub mod LastZeros
 pub mod StrippedFrames
+pub mod ShortFrames
+pub mod StrippedUnits
