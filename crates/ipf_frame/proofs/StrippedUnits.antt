@@ -101,10 +101,10 @@ stripped_units_stay tail c au new h = kept c au new h.frame h.is (immediate_decl
 -- ---- a target is what it was
 
 module _ (c : UsacConfig) (fade : Bool) (aus : List (List ℕ)) (au new : List ℕ) (declared : declares_preroll c ≡ true) (t : IsTarget c fade aus au new) where
-  n : ℕ
+  abbrev n : ℕ
   n = (8 - length (frame_text c (with_first (new_part t.payload) t.frame)) % 8) % 8
 
-  g : Frame
+  abbrev g : Frame
   g = with_zeros (with_first (new_part t.payload) t.frame) n
 
   new_is : IsFrame c new g
