@@ -1,5 +1,5 @@
 -- How many bits of a frame of whole bytes do not fill a byte without its preroll.
-use Rattle.std.proofs.Common.{◌≡◌, ℕ, ◌+◌, ◌-◌, ◌*◌, ◌%◌, Bool, true, false, List, [], ◌∷◌, ◌++◌, length, Some, None, refl, sym, ap, ◌∙◌, arith}
+use Rattle.std.proofs.Common.{◌≡◌, ℕ, ◌+◌, ◌-◌, ◌*◌, ◌%◌, Bool, true, false, List, [], ◌∷◌, ◌++◌, length, Some, None, refl, ap, ◌∙◌, arith}
 use Rattle.std.specs.Prelude.{◌&&◌, ◌==◌, slice_get, nat_lt, if◌then◌else◌}
 use Rattle.std.specs.Option.{option_map_or}
 use Rattle.std.specs.List.{flat_map}
@@ -17,10 +17,10 @@ use Rattle.usac_frame.specs.declared.part.LengthForm.{LengthForm}
 use Rattle.usac_frame.specs.declared.part.LengthForm.TheVariants.{Default, Byte, Long}
 use Rattle.usac_frame.specs.declared.part.ExtPart.{ExtPart}
 use Rattle.usac_frame.specs.declared.part.ExtPart.TheVariants.{Absent, Present}
-use Rattle.usac_frame.specs.Frame.{FitParts, FitsConfig, parts_text, leading, leading_exts, frame_text}
+use Rattle.usac_frame.specs.Frame.{FitParts, FitsConfig, parts_text, leading, frame_text}
 use Rattle.usac_frame.specs.Part.{coded, coded_length, has_marks, marks, part_text}
 use Rattle.usac_frame.specs.Units.{part_bytes, is_whole_part, is_immediate}
-use Rattle.ipf_frame.specs.Frames.{first_part, with_first}
+use Rattle.ipf_frame.specs.Frames.{first_part}
 use Rattle.ipf_frame.specs.Stripping.{spare_bits}
 
 -- ---- a part that is present: its length but for whole bytes

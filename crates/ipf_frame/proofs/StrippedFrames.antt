@@ -1,6 +1,5 @@
 -- What is left of an access unit without its preroll, of the frame that it is.
-use Rattle.std.proofs.Common.{◌≡◌, ℕ, ◌*◌, ◌%◌, ◌≤◌, Bool, true, List, length, Option, refl, sym, ap, subst, ◌∙◌, arith}
-use Rattle.layout.specs.Text.{bits_of}
+use Rattle.std.proofs.Common.{◌≡◌, ℕ, ◌*◌, ◌%◌, Bool, true, List, length, Option, sym, ap, subst, ◌∙◌, arith}
 use Rattle.layout.proofs.TextLemmas.{length-bits_of}
 use Rattle.usac_cfg.specs.declared.usac_config.UsacConfig.{UsacConfig}
 use Rattle.usac_frame.specs.declared.frame.Frame.{Frame}

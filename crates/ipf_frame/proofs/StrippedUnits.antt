@@ -1,13 +1,12 @@
 -- An access unit without its preroll: it is the relation on bits, its unit stays, and a target is what it was.
-use Rattle.std.proofs.Common.{◌≡◌, ℕ, ◌+◌, ◌-◌, ◌*◌, ◌%◌, ◌<◌, ◌≤◌, Bool, true, false, List, [], ◌∷◌, ◌++◌, length, take, drop, replicate, Option, All, refl, sym, ap, subst, ◌∙◌, arith}
+use Rattle.std.proofs.Common.{◌≡◌, ℕ, ◌-◌, ◌%◌, ◌<◌, ◌≤◌, Bool, true, false, List, ◌++◌, length, take, drop, replicate, refl, sym, ap, subst, ◌∙◌, arith}
 use Rattle.std.specs.Prelude.{◌&&◌, slice_get, nat_lt, if◌then◌else◌}
 use Rattle.std.specs.Option.{option_map_or}
 use Rattle.std.specs.List.{AllByRecursion}
 use Rattle.std.proofs.lemmas.Bool.Decides.{nat_tests}
-use Rattle.std.proofs.lemmas.List.{length-replicate, length-append, take-append-drop}
+use Rattle.std.proofs.lemmas.List.{take-append-drop}
 use Rattle.std.proofs.lemmas.List.Elements.{All-from_recursion}
 use Rattle.layout.specs.Text.{bits_of, pad}
-use Rattle.layout.proofs.TextLemmas.{length-bits_of}
 use Rattle.usac_cfg.specs.declared.usac_config.UsacConfig.{UsacConfig}
 use Rattle.usac_cfg.specs.UsacConfig.{declares_preroll}
 use Rattle.usac_frame.specs.declared.frame.Frame.{Frame}
@@ -16,14 +15,14 @@ use Rattle.usac_frame.specs.declared.part.ExtPart.TheVariants.{Absent}
 use Rattle.usac_frame.specs.AccessUnit.{IsFrame, unit_in}
 use Rattle.usac_frame.specs.Frame.{leading_exts, frame_text}
 use Rattle.usac_frame.specs.Laws.{with_zeros}
-use Rattle.usac_frame.specs.Units.{UnitValue, core_text, part_bytes, payload_length, is_whole, is_immediate, unit_of}
+use Rattle.usac_frame.specs.Units.{UnitValue, part_bytes, payload_length, is_whole, is_immediate, unit_of}
 use Rattle.bit_core.specs.Trim.{trimmed}
 use Rattle.ipf_frame.specs.declared.stripping.Tail.{Tail}
 use Rattle.ipf_frame.specs.declared.stripping.Tail.TheVariants.{Undo, Keep}
 use Rattle.ipf_frame.specs.Frames.{with_first, frame_bytes, new_part}
 use Rattle.ipf_frame.specs.Slot.{IsTarget}
-use Rattle.ipf_frame.specs.StripLaws.{ImmediateFrame, StrippedIsMade, StrippedUnitsStay, TargetsAreStripped, StrippedAreFew}
-use Rattle.ipf_frame.specs.Stripping.{spare_bits, shortened, stripped_frame, stripped_slot, ends_in_zeros, may_strip, IsStrippedText, IsStripped}
+use Rattle.ipf_frame.specs.StripLaws.{StrippedIsMade, StrippedUnitsStay, TargetsAreStripped, StrippedAreFew}
+use Rattle.ipf_frame.specs.Stripping.{spare_bits, shortened, stripped_frame, stripped_slot, ends_in_zeros, may_strip, IsStrippedText}
 use Rattle.ipf_frame.proofs.BareFrames.{absent_bytes}
 use Rattle.ipf_frame.proofs.CarriedUnits.{some_payload, whole, no_payload}
 use Rattle.ipf_frame.proofs.CleanBytes.{pad_short, pad_small, frame_bits, frame_back, bare_short}

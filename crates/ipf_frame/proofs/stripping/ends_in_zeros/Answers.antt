@@ -1,4 +1,4 @@
-use Rattle.std.proofs.Common.{◌≡◌, ◌<◌, true, false, length, refl, sym, ap, subst, ◌∙◌, arith}
+use Rattle.std.proofs.Common.{◌<◌, true, false, length, refl, sym, ◌∙◌, arith}
 use Rattle.ipf_frame.proofs.LastZeros.{one_more, enough}
 use Rattle.ipf_frame.proofs.stripping.ends_in_zeros.Goals as goal
 
