@@ -18,7 +18,7 @@ use Rattle.ipf_frame.specs.Clean.{IsCleanText, IsClean}
 use Rattle.ipf_frame.specs.Laws.{CleanUnitsStay}
 use Rattle.ipf_frame.proofs.WrittenFrames.{written, unit_is}
 
-absent_bytes : (c : UsacConfig) (f : Frame) (n : ℕ) → payload_length c (with_zeros (with_first Absent f) n) ≡ 0
+pub absent_bytes : (c : UsacConfig) (f : Frame) (n : ℕ) → payload_length c (with_zeros (with_first Absent f) n) ≡ 0
 absent_bytes c f n = by_declared (declares_preroll c) f.leading
   where
     by_declared : (b : Bool) (ps : List ExtPart) → (if b then option_map_or part_bytes (slice_get (first_part Absent ps) 0) 0 else 0) ≡ 0

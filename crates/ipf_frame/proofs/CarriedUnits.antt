@@ -79,10 +79,10 @@ module _ (c : UsacConfig) (f : Frame) (payload : List ℕ) (n : ℕ) (declared :
   first_is [] e = absurd (let never : None ≡ Some Absent = e in cc)
   first_is (q ∷ ps) e = refl
 
-  some_payload : payload_length c (with_zeros (with_first (new_part payload) f) n) ≡ length payload
+  pub some_payload : payload_length c (with_zeros (with_first (new_part payload) f) n) ≡ length payload
   some_payload = ap (λ (b : Bool). if b then option_map_or part_bytes (slice_get (first_part (new_part payload) f.leading) 0) 0 else 0) declared ∙ ap (λ (o : Option ExtPart). option_map_or part_bytes o 0) (first_is f.leading absent)
 
-  whole : is_whole (with_zeros (with_first (new_part payload) f) n) ≡ true
+  pub whole : is_whole (with_zeros (with_first (new_part payload) f) n) ≡ true
   whole = ap (λ (o : Option ExtPart). option_map_or is_whole_part o false) (first_is f.leading absent)
 
   payload_is : first_payload (with_zeros (with_first (new_part payload) f) n) ≡ payload
@@ -92,7 +92,7 @@ some_middle : (x : List Bool) (b : Bool) (y z : List Bool) → 1 ≤ length ((x 
 some_middle x b y z = omega (arith, length-append (x ++ (b ∷ y)) z, length-append x (b ∷ y))
 
 -- a preroll has some bits
-no_payload : (payload : List ℕ) (p : PreRoll) → length payload ≡ 0 → bits_of payload ≡ pad (preroll_text p) → ⊥
+pub no_payload : (payload : List ℕ) (p : PreRoll) → length payload ≡ 0 → bits_of payload ≡ pad (preroll_text p) → ⊥
 no_payload payload p none text =
     let some : 1 ≤ length (pad (preroll_text p)) = some_middle ((counted_bytes 4 4 8).spelling p.config) p.fade _ _ in
     omega (arith, some, none, ap (λ (t : List Bool). length t) text, length-bits_of payload)

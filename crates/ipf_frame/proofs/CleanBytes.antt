@@ -38,7 +38,7 @@ pub pad_small : (t : List Bool) → AllByRecursion (λ byte. byte < 256) (bytes_
 pad_small t = recursion_from_All (λ byte. byte < 256) (bytes_of (pad t)) (bytes_of-small (pad t) (pad_whole t))
 
 -- a text no longer than that of some bytes makes no more bytes
-pad_short : (t : List Bool) (n : ℕ) → length t ≤ 8 * n → length (bytes_of (pad t)) ≤ n
+pub pad_short : (t : List Bool) (n : ℕ) → length t ≤ 8 * n → length (bytes_of (pad t)) ≤ n
 pad_short t n le = omega (arith, length-bytes_of (pad t), length-pad t)
 
 -- bytes of their type that spell a padded text are its bytes
@@ -68,7 +68,7 @@ parts_short [] (q ∷ ps) = omega arith
 parts_short (e ∷ exts) [] = omega arith
 parts_short (e ∷ exts) (q ∷ ps) = joined_short (part_text e Absent) (part_text e q) (parts_text exts ps) (absent_short e q)
 
-bare_short : (c : UsacConfig) (f : Frame) → length (frame_text c (with_first Absent f)) ≤ length (frame_text c f)
+pub bare_short : (c : UsacConfig) (f : Frame) → length (frame_text c (with_first Absent f)) ≤ length (frame_text c f)
 bare_short c f =
     let le = joined_short (parts_text (leading_exts c) (first_part Absent f.leading)) (parts_text (leading_exts c) f.leading) f.rest (parts_short (leading_exts c) f.leading) in
     more f.independent _ _ le

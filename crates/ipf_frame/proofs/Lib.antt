@@ -8,3 +8,7 @@ pub mod CleanBytes
 pub mod Payloads
 pub mod Targets
 pub mod Spares
+pub mod LastZeros
+pub mod StrippedFrames
+pub mod ShortFrames
+pub mod StrippedUnits

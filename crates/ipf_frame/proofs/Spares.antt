@@ -1,10 +1,11 @@
 -- How many bits of a frame of whole bytes do not fill a byte without its preroll.
-use Rattle.std.proofs.Common.{◌≡◌, ℕ, ◌+◌, ◌-◌, ◌*◌, ◌%◌, Bool, true, false, List, [], ◌∷◌, ◌++◌, length, refl, sym, ap, ◌∙◌, arith}
+use Rattle.std.proofs.Common.{◌≡◌, ℕ, ◌+◌, ◌-◌, ◌*◌, ◌%◌, Bool, true, false, List, [], ◌∷◌, ◌++◌, length, Some, None, refl, ap, ◌∙◌, arith}
 use Rattle.std.specs.Prelude.{◌&&◌, ◌==◌, slice_get, nat_lt, if◌then◌else◌}
 use Rattle.std.specs.Option.{option_map_or}
 use Rattle.std.specs.List.{flat_map}
 use Rattle.std.proofs.lemmas.List.{length-append}
 use Rattle.layout.specs.Text.{num, bits_of}
+use Rattle.layout.proofs.Layouts.{some_is}
 use Rattle.layout.proofs.TextLemmas.{length-num, length-bits_of}
 use Rattle.usac_cfg.specs.declared.element_config.ElementConfig.{ElementConfig}
 use Rattle.usac_cfg.specs.declared.element_config.ElementConfig.TheVariants.{Single, Pair, Lfe, Ext}
@@ -16,10 +17,10 @@ use Rattle.usac_frame.specs.declared.part.LengthForm.{LengthForm}
 use Rattle.usac_frame.specs.declared.part.LengthForm.TheVariants.{Default, Byte, Long}
 use Rattle.usac_frame.specs.declared.part.ExtPart.{ExtPart}
 use Rattle.usac_frame.specs.declared.part.ExtPart.TheVariants.{Absent, Present}
-use Rattle.usac_frame.specs.Frame.{FitParts, FitsConfig, parts_text, leading, leading_exts, frame_text}
+use Rattle.usac_frame.specs.Frame.{FitParts, FitsConfig, parts_text, leading, frame_text}
 use Rattle.usac_frame.specs.Part.{coded, coded_length, has_marks, marks, part_text}
 use Rattle.usac_frame.specs.Units.{part_bytes, is_whole_part, is_immediate}
-use Rattle.ipf_frame.specs.Frames.{first_part, with_first}
+use Rattle.ipf_frame.specs.Frames.{first_part}
 use Rattle.ipf_frame.specs.Stripping.{spare_bits}
 
 -- ---- a part that is present: its length but for whole bytes
@@ -101,3 +102,14 @@ spare (Ext e ∷ es) (Present form start stop payload ∷ ps) i rest fits whole 
 
 pub spare_is : (c : UsacConfig) (f : Frame) → FitsConfig c f → length (frame_text c f) % 8 ≡ 0 → is_immediate c f ≡ true → spare_bits c f ≡ (if first_frag c.elements then 5 else 7)
 spare_is c f fits whole immediate = spare c.elements f.leading f.independent f.rest fits whole immediate
+
+-- the same where element 0 is seen
+pub seen_spare : (c : UsacConfig) (f : Frame) (e : ExtConfig) (b : Bool) → FitsConfig c f → length (frame_text c f) % 8 ≡ 0 → is_immediate c f ≡ true → slice_get c.elements 0 ≡ Some (Ext e) → e.frag ≡ b → spare_bits c f ≡ (if b then 5 else 7)
+seen_spare c f e b fits whole immediate seen frag = spare_is c f fits whole immediate ∙ ap (λ (x : Bool). if x then 5 else 7) (first_is c.elements seen ∙ frag)
+  where
+    first_is : (es : List ElementConfig) → slice_get es 0 ≡ Some (Ext e) → first_frag es ≡ e.frag
+    first_is [] h = absurd (let never : None ≡ Some (Ext e) = h in cc)
+    first_is (Single core s ∷ es) h = absurd (let never : Some (Single core s) ≡ Some (Ext e) = h in cc)
+    first_is (Pair core s n m ∷ es) h = absurd (let never : Some (Pair core s n m) ≡ Some (Ext e) = h in cc)
+    first_is (Lfe ∷ es) h = absurd (let never : Some Lfe ≡ Some (Ext e) = h in cc)
+    first_is (Ext x ∷ es) h = let same : Ext x ≡ Ext e = some_is (Ext x) (Ext e) h in ap (λ (l : ElementConfig). first_frag (l ∷ [])) same

@@ -16,7 +16,7 @@ use Rattle.ipf_frame.specs.Laws.{Undoes}
 use Rattle.ipf_frame.proofs.WrittenFrames.{parts_fit, zeros_behind, one_frame}
 use Rattle.ipf_frame.proofs.NewParts.{new_fits}
 
-absent_again : (p : ExtPart) (ps : List ExtPart) → slice_get ps 0 ≡ Some Absent → first_part Absent (first_part p ps) ≡ ps
+pub absent_again : (p : ExtPart) (ps : List ExtPart) → slice_get ps 0 ≡ Some Absent → first_part Absent (first_part p ps) ≡ ps
 absent_again p [] e = refl
 absent_again p (q ∷ ps) e = ap (λ (x : ExtPart). x ∷ ps) (sym (some_is q Absent e))
 

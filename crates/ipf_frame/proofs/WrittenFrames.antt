@@ -33,7 +33,7 @@ drop_first p [] = refl
 drop_first p (q ∷ ps) = refl
 
 -- the bits behind the preroll element are the same
-core_kept : (c : UsacConfig) (f : Frame) (p : ExtPart) → declares_preroll c ≡ true → core_text c (with_first p f) ≡ core_text c f
+pub core_kept : (c : UsacConfig) (f : Frame) (p : ExtPart) → declares_preroll c ≡ true → core_text c (with_first p f) ≡ core_text c f
 core_kept c f p e =
     let n : preroll_parts c ≡ 1 = ap (λ (b : Bool). if b then 1 else 0) e in
     ap (λ (k : ℕ). parts_text (drop (preroll_parts c) (leading_exts c)) (drop k (first_part p f.leading)) ++ f.rest) n
@@ -43,7 +43,7 @@ core_kept c f p e =
 pub zeros_behind : (c : UsacConfig) (f : Frame) (n : ℕ) → frame_text c f ++ replicate n false ≡ frame_text c (with_zeros f n)
 zeros_behind c f n = ap (λ (t : List Bool). f.independent ∷ t) (append_assoc (parts_text (leading_exts c) f.leading) f.rest (replicate n false))
 
-unit_behind : (c : UsacConfig) (f : Frame) (n : ℕ) → unit_of c (with_zeros f n) ≡ unit_of c f
+pub unit_behind : (c : UsacConfig) (f : Frame) (n : ℕ) → unit_of c (with_zeros f n) ≡ unit_of c f
 unit_behind c f n =
     let parts = parts_text (drop (preroll_parts c) (leading_exts c)) (drop (preroll_parts c) f.leading) in
     ap (λ (t : List Bool). let u : UnitValue = record { independent = f.independent; bits = t } in u) (ap trimmed (sym (append_assoc parts f.rest (replicate n false))) ∙ trimmed-zeros (parts ++ f.rest) n)

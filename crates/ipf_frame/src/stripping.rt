@@ -88,14 +88,18 @@ pub fn without_preroll(
     let frame = read_whole(alloc, config, au)?;
     let spare = spare_bits(config, &frame);
     let bare = with_part(frame, ExtPart::Absent);
-    if tail == Tail::Keep {
-        let bytes = frame_bytes(alloc, config, &bare)?;
-        return Ok(Some(bytes));
+    match tail {
+        Tail::Undo => {
+            if !ends_in_zeros(&bare.rest, spare) {
+                return Ok(None);
+            }
+            let short = shortened(alloc, spare, bare)?;
+            let bytes = frame_bytes(alloc, config, &short)?;
+            Ok(Some(bytes))
+        }
+        Tail::Keep => {
+            let bytes = frame_bytes(alloc, config, &bare)?;
+            Ok(Some(bytes))
+        }
     }
-    if !ends_in_zeros(&bare.rest, spare) {
-        return Ok(None);
-    }
-    let short = shortened(alloc, spare, bare)?;
-    let bytes = frame_bytes(alloc, config, &short)?;
-    Ok(Some(bytes))
 }

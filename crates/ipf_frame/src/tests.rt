@@ -3,13 +3,13 @@ ghost use Rattle.usac_cfg.specs.UsacConfig.{IsWellFormed};
 ghost use Rattle.usac_frame.specs.AccessUnit.{IsFrame};
 
 use crate::changing::in_range;
-use crate::{clean, config_bytes, is_open, new_payload, with_payload};
+use crate::{Tail, clean, config_bytes, is_open, new_payload, with_payload, without_preroll};
 use bit_core::{BitReader, Octets};
 use std::alloc::Global;
 use std::process::Abort;
 use std::test::Fail;
 use usac_cfg::{CfgFault, UsacConfig};
-use usac_frame::{Frame, FrameFault, read_frame};
+use usac_frame::{Frame, FrameFault, is_immediate, read_frame};
 use vectors::bytes_of;
 
 // `STREAM_2`, and the same with usacExtElementPayloadFrag at the preroll element.
@@ -50,6 +50,23 @@ const CLEANED: &[(&'static str, bool, &'static str)] = &[
     (JOINS, false, "B000"),
     ("B0", true, "B0"),
     ("C018", false, "C018"),
+];
+
+// A configuration, an access unit with a preroll, and that without it: where its end is undone, and where it is kept. The ends
+// are the zeros of an insertion, ones, and fewer bits than are to go.
+type StrippedRow = (
+    &'static str,
+    &'static str,
+    Option<&'static str>,
+    &'static str,
+);
+
+const STRIPPED: &[StrippedRow] = &[
+    (PLAIN, JOINS, Some("B0"), "B000"),
+    (PLAIN, "C1903211CC018E400040200030387F", None, "B0FE"),
+    (PLAIN, "C02000", None, "80"),
+    (SPREAD, "C19C0C8473046390001008000C0E00", Some("B0"), "B000"),
+    (SPREAD, "C19C0C8473046390001008000C0E1F", None, "B0F8"),
 ];
 
 fn config_of(alloc: Global, bytes: &[u8]) -> Result<UsacConfig, CfgFault>
@@ -125,6 +142,53 @@ fn targets_carry_access_units(rt: HostRuntime) -> Result<(), Fail> {
     Ok(())
 }
 
+// The access unit without its preroll, where it has one.
+fn stripped(
+    alloc: Global,
+    tail: Tail,
+    config: &UsacConfig,
+    au: &[u8],
+) -> Result<Option<Octets>, FrameFault>
+    requires { length au.now ≤ 8191 }
+{
+    let frame = read_is(alloc, config, au)?;
+    if !is_immediate(config, &frame) {
+        return Ok(None);
+    }
+    let bytes = without_preroll(alloc, tail, config, au)?;
+    Ok(bytes)
+}
+
+fn check_end(
+    rt: &(impl Abort + AllocGlobal),
+    config: &UsacConfig,
+    au: &[u8],
+    tail: Tail,
+    wanted: Option<&'static str>,
+) -> Result<(), Fail> {
+    assert!(rt; au.len() <= 8191);
+    let bytes = stripped(rt.alloc(), tail, config, au)?;
+    match (bytes, wanted) {
+        (Some(bytes), Some(text)) => {
+            let wanted = bytes_of(rt.alloc(), text)?;
+            assert_eq!(rt; bytes.as_slice(), wanted.as_slice(), "{text}");
+        }
+        (bytes, wanted) => assert!(rt; bytes.is_none() && wanted.is_none()),
+    }
+    Ok(())
+}
+
+#[test]
+fn prerolls_are_taken_out(rt: HostRuntime) -> Result<(), Fail> {
+    for (config, text, undone, kept) in STRIPPED {
+        let config = config_in(&rt, config)?;
+        let au = bytes_of(rt.alloc(), text)?;
+        check_end(&rt, &config, &au, Tail::Undo, *undone)?;
+        check_end(&rt, &config, &au, Tail::Keep, Some(*kept))?;
+    }
+    Ok(())
+}
+
 // The target with this payload, where its part 0 is absent.
 fn with_zeros(
     alloc: Global,
@@ -160,7 +224,10 @@ fn check_length(
     wanted.push(0x18)?;
     wanted.push(0)?;
     match with_zeros(rt.alloc(), &config, &[0xB0], payload)? {
-        Some(target) => assert_eq!(rt; target.as_slice(), wanted.as_slice(), "{front}"),
+        Some(target) => {
+            assert_eq!(rt; target.as_slice(), wanted.as_slice(), "{front}");
+            check_end(rt, &config, target.as_slice(), Tail::Undo, Some("B0"))?;
+        }
         None => panic!(rt; "no target"),
     }
     Ok(())
