@@ -18,6 +18,12 @@ use Rattle.stream_edit.proofs.Elements.{small_slots, with_slots_is}
 abbrev AreBytes : List ℕ → Type 0
 AreBytes au = AllByRecursion (λ b. b < 256) au
 
+module _ (make : ℕ → List ℕ → List ℕ) (targets : List ℕ) where
+  -- there are as many slots as before
+  pub as_many : (t : ℕ) (slots : List (List ℕ)) → length (slots_in make targets t slots) ≡ length slots
+  as_many t [] = refl
+  as_many t (au ∷ slots) = ap (λ (n : ℕ). suc n) (as_many (suc t) slots)
+
 module _ (make : ℕ → List ℕ → List ℕ) (targets : List ℕ) (small : (t : ℕ) (au : List ℕ) → AreBytes au → AreBytes (make t au)) where
   slot_small : (t : ℕ) (au : List ℕ) → AreBytes au → AreBytes (slot_in make targets t au)
   slot_small t au h = by_target (is_target targets t)
@@ -30,14 +36,10 @@ module _ (make : ℕ → List ℕ → List ℕ) (targets : List ℕ) (small : (t
   slots_small t [] h = tt
   slots_small t (au ∷ slots) h = (slot_small t au h.0.1, slots_small (suc t) slots h.1)
 
-  as_many : (t : ℕ) (slots : List (List ℕ)) → length (slots_in make targets t slots) ≡ length slots
-  as_many t [] = refl
-  as_many t (au ∷ slots) = ap (λ (n : ℕ). suc n) (as_many (suc t) slots)
-
   elements_are : (t : ℕ) (before : Option MuxConfig) (es : List MuxElement) → AreElements before es → AllByRecursion IsWritable (elements_in make targets t es) → AreElements before (elements_in make targets t es)
   elements_are t before [] h w = tt
   elements_are t before (e ∷ es) h w = (
-    with_slots_is before e (slots_in make targets t e.slots) h.0 (as_many t e.slots) (slots_small t e.slots (small_slots before e h.0)) w.0.few,
+    with_slots_is before e (slots_in make targets t e.slots) h.0 (as_many make targets t e.slots) (slots_small t e.slots (small_slots before e h.0)) w.0.few,
     elements_are (t + length e.slots) (then_in_force before e.config) es h.1 w.1,
   )
 

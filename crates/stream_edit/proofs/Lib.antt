@@ -5,3 +5,5 @@ pub mod Misplaced
 pub mod EditedFrames
 pub mod Standing
 pub mod EditedStream
+pub mod ShorterSlots
+pub mod EditedAll

@@ -22,39 +22,42 @@ Pair = UsacConfig × List ℕ
 
 module _ (May : ℕ → UsacConfig → List ℕ → Type 0) (targets : List ℕ) where
   -- the same of frames whose first has number t
-  abbrev May_from : ℕ → List Pair → Type 0
-  May_from t fs = (n k : ℕ) (f : Pair) → k ≡ t + n → slice_get fs n ≡ Some f → is_target targets k ≡ true → May k (config_in f) (au_in f)
+  abbrev pub MayFrom : ℕ → List Pair → Type 0
+  MayFrom t fs = (n k : ℕ) (f : Pair) → k ≡ t + n → slice_get fs n ≡ Some f → is_target targets k ≡ true → May k (config_in f) (au_in f)
 
-  may_tail : (t : ℕ) (x : Pair) (fs : List Pair) → May_from t (x ∷ fs) → May_from (suc t) fs
+  pub may_tail : (t : ℕ) (x : Pair) (fs : List Pair) → MayFrom t (x ∷ fs) → MayFrom (suc t) fs
   may_tail t x fs h n k f e g is = h (suc n) k f (omega (arith, e)) g is
 
-  may_front : (t : ℕ) (xs ys : List Pair) → May_from t (xs ++ ys) → May_from t xs
+  may_front : (t : ℕ) (xs ys : List Pair) → MayFrom t (xs ++ ys) → MayFrom t xs
   may_front t [] ys h n k f e g is = absurd (let never : None ≡ Some f = g in cc)
   may_front t (x ∷ xs) ys h zero k f e g is = h zero k f e g is
   may_front t (x ∷ xs) ys h (suc n) k f e g is = may_front (suc t) xs ys (may_tail t x (xs ++ ys) h) n k f (omega (arith, e)) g is
 
-  may_behind : (t : ℕ) (xs ys : List Pair) → May_from t (xs ++ ys) → May_from (t + length xs) ys
+  may_behind : (t : ℕ) (xs ys : List Pair) → MayFrom t (xs ++ ys) → MayFrom (t + length xs) ys
   may_behind t [] ys h n k f e g is = h n k f (omega (arith, e)) g is
   may_behind t (x ∷ xs) ys h n k f e g is = may_behind (suc t) xs ys (may_tail t x (xs ++ ys) h) n k f (omega (arith, e)) g is
 
-  may_slots : (t : ℕ) (m : MuxConfig) (slots : List (List ℕ)) → May_from t (slots_under (Some m) slots) → MayChange May targets t m.asc.usac slots
+  may_slots : (t : ℕ) (m : MuxConfig) (slots : List (List ℕ)) → MayFrom t (slots_under (Some m) slots) → MayChange May targets t m.asc.usac slots
   may_slots t m [] h = tt
   may_slots t m (au ∷ slots) h = (
     λ is. h zero t (m.asc.usac, au) (omega arith) refl is,
     may_slots (suc t) m slots (may_tail t (m.asc.usac, au) (slots_under (Some m) slots) h),
   )
 
-  may_elements : (t : ℕ) (before : Option MuxConfig) (es : List MuxElement) → AreElements before es → May_from t (slots_from before es) → MayChangeAll May targets t before es
+  pub may_elements : (t : ℕ) (before : Option MuxConfig) (es : List MuxElement) → AreElements before es → MayFrom t (slots_from before es) → MayChangeAll May targets t before es
   may_elements t before [] are h = tt
   may_elements t before (e ∷ es) are h =
       let own = then_in_force before e.config in
       let m = in_force_of before e are.0 in
-      let all : May_from t (slots_under (Some m.0) e.slots ++ slots_from own es) = subst (λ (o : Option MuxConfig). May_from t (slots_under o e.slots ++ slots_from own es)) m.1 h in
+      let all : MayFrom t (slots_under (Some m.0) e.slots ++ slots_from own es) = subst (λ (o : Option MuxConfig). MayFrom t (slots_under o e.slots ++ slots_from own es)) m.1 h in
       let long : length (slots_under (Some m.0) e.slots) ≡ length e.slots = length-map e.slots _ in (
         subst (λ (o : Option MuxConfig). MayChangeUnder May targets t o e.slots) (sym m.1) (may_slots t m.0 e.slots (may_front t (slots_under (Some m.0) e.slots) (slots_from own es) all)),
         may_elements (t + length e.slots) own es are.1
-            (subst (λ (k : ℕ). May_from (t + k) (slots_from own es)) long (may_behind t (slots_under (Some m.0) e.slots) (slots_from own es) all)),
+            (subst (λ (k : ℕ). MayFrom (t + k) (slots_from own es)) long (may_behind t (slots_under (Some m.0) e.slots) (slots_from own es) all)),
       )
+
+  pub may_all : (fs : List Pair) → TargetsMay May targets fs → MayFrom 0 fs
+  may_all fs may n k f e g is = may k f (subst (λ (j : ℕ). slice_get fs j ≡ Some f) (let j : n ≡ k = omega (arith, e) in j) g) is
 
 pub stands : (make : ℕ → List ℕ → List ℕ) (May : ℕ → UsacConfig → List ℕ → Type 0) (targets : List ℕ) (s : Stream) (es : List MuxElement) → es ≡ s.elements → IsWellFormed s → IsRising targets
     → TargetsMay May targets (frames_of s) → AllByRecursion IsWritable (elements_in make targets 0 s.elements) → Stands make May targets 0 None es
@@ -62,7 +65,7 @@ stands make May targets s es is w rising may writable = subst (λ (xs : List Mux
   rising = rising;
   elements = w.elements;
   few = let few = w.frames in omega (arith, few);
-  may = may_elements May targets 0 None s.elements w.elements (λ n k f e g i. may k f (subst (λ (j : ℕ). slice_get (frames_of s) j ≡ Some f) (let j : n ≡ k = omega (arith, e) in j) g) i);
+  may = may_elements May targets 0 None s.elements w.elements (may_all May targets (frames_of s) may);
   writable = writable;
 })
 
