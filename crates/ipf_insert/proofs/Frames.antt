@@ -45,14 +45,14 @@ not_short c au g is = by_place (short_at c au) refl (short_is c au)
     by_place (Some at) e h = absurd ((decided c).not_both (bits_of au) (frames.Short at) (g, is.fits, is.spelled) h)
 
 -- what is not short is a frame
-frame_there : (c : UsacConfig) (au : List ℕ) → short_at c au ≡ None → (g : Frame) × IsFrame c au g
+pub frame_there : (c : UsacConfig) (au : List ℕ) → short_at c au ≡ None → (g : Frame) × IsFrame c au g
 frame_there c au e = by_place (short_at c au) e (short_is c au)
   where
     by_place : (o : Option ℕ) → o ≡ None → ShortOr c au o → (g : Frame) × IsFrame c au g
     by_place None e h = (h.0, frame_of_is.is c au h.0 h.1)
     by_place (Some at) e h = absurd (let never : Some at ≡ None = e in cc)
 
-is_short : (c : UsacConfig) (au : List ℕ) (at : ℕ) → FrameFaults c (frames.Short at) (bits_of au) → short_at c au ≡ Some at
+pub is_short : (c : UsacConfig) (au : List ℕ) (at : ℕ) → FrameFaults c (frames.Short at) (bits_of au) → short_at c au ≡ Some at
 unfolding short_at
 is_short c au at bad = ap frame_short ((fault_of_is (frame c) (decided c)).found (bits_of au) (frames.Short at) bad)
 

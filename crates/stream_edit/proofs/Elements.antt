@@ -1,5 +1,5 @@
 -- What the elements of a well formed stream give.
-use Rattle.std.proofs.Common.{◌≡◌, ℕ, ◌<◌, ◌≤◌, List, [], ◌∷◌, length, Option, Some, None, refl, ◌∙◌, arith}
+use Rattle.std.proofs.Common.{◌≡◌, ℕ, ◌<◌, ◌≤◌, List, [], ◌∷◌, ◌++◌, length, Option, Some, None, refl, ◌∙◌, arith}
 use Rattle.std.specs.Prelude.{is_some}
 use Rattle.std.specs.List.{flat_map, AllByRecursion}
 use Rattle.std.proofs.lemmas.List.{length-append}
@@ -7,13 +7,14 @@ use Rattle.layout.specs.Layout.{FitsOption}
 use Rattle.layout.specs.Text.{num}
 use Rattle.bit_core.specs.Plain.{bits}
 use Rattle.esc_value.specs.SlotLength.{slot_text}
+use Rattle.usac_cfg.specs.declared.usac_config.UsacConfig.{UsacConfig}
 use Rattle.latm.specs.declared.mux_config.MuxConfig.{MuxConfig}
 use Rattle.latm.specs.declared.mux_element.MuxElement.{MuxElement}
 use Rattle.latm.specs.MuxConfig.{IsWellFormed as IsMux}
 use Rattle.latm.specs.MuxElement.{then_in_force, opening, slot_of_bytes, with_slots}
-use Rattle.latm.specs.Stream.{IsElementOf}
+use Rattle.latm.specs.Stream.{IsElementOf, AreElements, slots_under, slots_from}
 use Rattle.latm.specs.Written.{element_text}
-use Rattle.stream_edit.specs.Steps.{AreAus}
+use Rattle.stream_edit.specs.Steps.{AreAus, AreSmall}
 use Rattle.stream_edit.proofs.Whole.{bytes_whole, text_length, whole_with}
 
 -- a configuration is in force in an element
@@ -64,3 +65,20 @@ with_slots_is before e slots is count bytes few = record {
   whole = whole_with slots e is.whole;
   few = few;
 }
+
+-- ---- the frames of elements
+
+small_both : (xs ys : List (UsacConfig × List ℕ)) → AreSmall xs → AreSmall ys → AreSmall (xs ++ ys)
+small_both [] ys h k = k
+small_both (x ∷ xs) ys h k = (h.0, small_both xs ys h.1 k)
+
+small_under : (o : Option MuxConfig) (slots : List (List ℕ)) → AreAus slots → AreSmall (slots_under o slots)
+small_under None slots h = tt
+small_under (Some m) [] h = tt
+small_under (Some m) (au ∷ slots) h = (h.0, small_under (Some m) slots h.1)
+
+pub small_frames : (before : Option MuxConfig) (es : List MuxElement) → AreElements before es → AreSmall (slots_from before es)
+small_frames before [] h = tt
+small_frames before (e ∷ es) h =
+    let own = then_in_force before e.config in
+    small_both (slots_under own e.slots) (slots_from own es) (small_under own e.slots (small_slots before e h.0)) (small_frames own es h.1)

@@ -20,6 +20,10 @@ AreBelow n targets = AllByRecursion (λ t. t < n) targets
 abbrev pub AreAus : List (List ℕ) → Type 0
 AreAus aus = AllByRecursion (λ au. (length au ≤ 8191) × AllByRecursion (λ b. b < 256) au) aus
 
+-- the same of frames
+abbrev pub AreSmall : List (UsacConfig × List ℕ) → Type 0
+AreSmall fs = AllByRecursion (λ f. (length (au_in f) ≤ 8191) × AllByRecursion (λ b. b < 256) (au_in f)) fs
+
 -- Each target is a frame that can be changed.
 abbrev pub TargetsMay : (ℕ → UsacConfig → List ℕ → Type 0) → List ℕ → List (UsacConfig × List ℕ) → Type 0
 TargetsMay May targets frames = (t : ℕ) (f : UsacConfig × List ℕ) → slice_get frames t ≡ Some f → is_target targets t ≡ true → May t (config_in f) (au_in f)

@@ -1,0 +1,11 @@
+use Rattle.std.proofs.Common.{◌≡◌, ◌++◌, drop}
+use Rattle.stream_edit.specs.Frames.{pairs_of}
+use Rattle.ipf_strip.specs.Rules.{frames_rule}
+use Rattle.ipf_strip.specs.Stripping.{immediate_from}
+use Rattle.ipf_strip.proofs.immediate.immediate_among.Given as goal
+
+abbrev pub invariant-loop-number : goal.invariant-loop-number
+invariant-loop-number l = record {
+  so_far : frames_rule 0 (pairs_of l.fn.frames) ≡ frames_rule l.number (drop l.number (pairs_of l.frames));
+  list : l.list.items ++ immediate_from l.number (drop l.number (pairs_of l.frames)) ≡ immediate_from 0 (pairs_of l.fn.frames);
+}
