@@ -1,3 +1,5 @@
 pub mod Judged
 pub mod Places
 pub mod Passed
+pub mod StrippedStreams
+pub mod ImmediateLists

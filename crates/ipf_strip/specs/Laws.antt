@@ -1,6 +1,7 @@
 -- What holds of every stream whose prerolls no rule keeps from being taken out.
-use Rattle.std.specs.Prelude.{◌≡◌, ◌<◌, ℕ, Bool, true, List, length, get_or, Option, Some, None, slice_get}
+use Rattle.std.specs.Prelude.{◌≡◌, ℕ, Bool, true, List, Option, Some, None, slice_get}
 use Rattle.std.specs.List.{Contains}
+use Rattle.std.specs.List.Sorted.{IsStrictlyIncreasing}
 use Rattle.usac_cfg.specs.declared.usac_config.UsacConfig.{UsacConfig}
 use Rattle.latm.specs.declared.stream.Stream.{Stream}
 use Rattle.latm.specs.Stream.{IsWellFormed, frames_of}
@@ -8,7 +9,7 @@ use Rattle.ipf_frame.specs.declared.stripping.Tail.{Tail}
 use Rattle.ipf_frame.specs.declared.stripping.Tail.TheVariants.{Undo}
 use Rattle.ipf_insert.specs.Inserting.{inserted}
 use Rattle.ipf_insert.specs.Rules.{insert_fault}
-use Rattle.ipf_insert.specs.Laws.{KeepsFrames}
+use Rattle.stream_edit.specs.Laws.{KeepsFrames}
 use Rattle.ipf_strip.specs.Rules.{immediate, strip_fault}
 use Rattle.ipf_strip.specs.Stripping.{stripped, immediate_list}
 use Rattle.ipf_strip.specs.Relation.{IsStrippedOf}
@@ -41,6 +42,6 @@ IsImmediateAt (Some f) = immediate f ≡ true
 
 -- The list has exactly the numbers of the immediate play-out frames, in rising order.
 pub record ListsImmediate : Type 0 where
-  pub rise : (s : Stream) (i j : ℕ) → i < j → j < length (immediate_list s) → get_or (immediate_list s) i 0 < get_or (immediate_list s) j 0
+  pub rise : (s : Stream) → IsStrictlyIncreasing (immediate_list s)
   pub all : (s : Stream) (t : ℕ) → IsImmediateAt (slice_get (frames_of s) t) → Contains (immediate_list s) t
   pub only : (s : Stream) (t : ℕ) → Contains (immediate_list s) t → IsImmediateAt (slice_get (frames_of s) t)
