@@ -13,32 +13,19 @@ use Rattle.latm.specs.Stream.{IsWellFormed, frames_of, config_in, au_in}
 use Rattle.ipf_frame.specs.Laws.{FirstIndependent}
 use Rattle.ipf_frame.specs.Slot.{new_slot}
 use Rattle.ipf_frame.proofs.CarriedUnits as carried
-use Rattle.ipf_insert.specs.Inserting.{Settled, units_before, is_target, stream_in}
-use Rattle.ipf_insert.specs.Laws.{unit_of_frame, CarriesUnits, TargetsCarry}
+use Rattle.stream_edit.specs.Laws.{unit_of_frame}
+use Rattle.stream_edit.specs.Targets.{is_target}
+use Rattle.stream_edit.proofs.EditedFrames.{frame_new, frames_are, in_at}
+use Rattle.ipf_insert.specs.Inserting.{Settled, units_before, target_slot, stream_in}
+use Rattle.ipf_insert.specs.Laws.{CarriesUnits, TargetsCarry}
 use Rattle.ipf_insert.specs.Rules.{au_at}
-use Rattle.ipf_insert.proofs.ChangedFrames.{frame_new, frames_are, in_at}
 use Rattle.ipf_insert.proofs.ChangedSlots.{target_here}
+use Rattle.ipf_insert.proofs.Here.{at_there, au_there, config_there}
 use Rattle.ipf_insert.proofs.Holding.{Holds, passed_all}
 use Rattle.ipf_insert.proofs.Kept.{one_kept, independent}
 
 abbrev Pair : Type 0
 Pair = UsacConfig × List ℕ
-
--- the frame with a number below the number of frames
-at_there : (fs : List Pair) (t : ℕ) → t < length fs → (f : Pair) × (slice_get fs t ≡ Some f)
-at_there [] t lt = absurd (omega (arith, lt))
-at_there (f ∷ fs) zero lt = (f, refl)
-at_there (f ∷ fs) (suc t) lt = at_there fs t (omega (arith, lt))
-
-au_there : (fs : List Pair) (t : ℕ) (f : Pair) → slice_get fs t ≡ Some f → au_in f ≡ au_at (map au_in fs) t
-au_there [] t f e = absurd (let never : None ≡ Some f = e in cc)
-au_there (x ∷ fs) zero f e = sym (ap au_in (let is : x ≡ f = (let s : Some x ≡ Some f = e in cc) in is))
-au_there (x ∷ fs) (suc t) f e = au_there fs t f e
-
-config_there : (c : UsacConfig) (fs : List Pair) (t : ℕ) (f : Pair) → AllByRecursion (λ f. c ≡ config_in f) fs → slice_get fs t ≡ Some f → c ≡ config_in f
-config_there c [] t f same e = absurd (let never : None ≡ Some f = e in cc)
-config_there c (x ∷ fs) zero f same e = same.0 ∙ ap config_in (let is : x ≡ f = (let s : Some x ≡ Some f = e in cc) in is)
-config_there c (x ∷ fs) (suc t) f same e = config_there c fs t f same.1 e
 
 -- the first of the units that are carried
 first_there : (c : UsacConfig) (count n : ℕ) (aus : List (List ℕ)) → 1 ≤ count → n < length aus → (unit_in c (au_at aus n)).independent ≡ true → FirstIndependent c (take count (drop n aus))
@@ -77,9 +64,9 @@ module _ (s : Stream) (i : Settled) (targets : List ℕ) (h : Holds s i targets)
   target_is : IsWellFormed s → slice_get (frames_of (stream_in (Some i) targets s)) t ≡ Some (i.config, made (au_in frame_there.0))
   target_is w =
       let f = frame_there.0 in
-      ap (λ (fs : List Pair). slice_get fs t) (frames_are i targets 0 None s.elements w.elements)
-      ∙ in_at i targets 0 t (frames_of s) f frame_there.1
-      ∙ ap (λ (k : ℕ). Some (frame_new i targets k f)) (let k : 0 + t ≡ t = omega arith in k)
+      ap (λ (fs : List Pair). slice_get fs t) (frames_are (target_slot i) targets 0 None s.elements w.elements)
+      ∙ in_at (target_slot i) targets 0 t (frames_of s) f frame_there.1
+      ∙ ap (λ (k : ℕ). Some (frame_new (target_slot i) targets k f)) (let k : 0 + t ≡ t = omega arith in k)
       ∙ ap (λ (b : Bool). let x : Pair = (config_in f, if b then made (au_in f) else au_in f) in Some x) is
       ∙ ap (λ (c : UsacConfig). let x : Pair = (c, made (au_in f)) in Some x) (sym (config_there i.config (frames_of s) t f h.same frame_there.1))
 

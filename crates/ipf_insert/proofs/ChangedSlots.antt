@@ -1,20 +1,21 @@
 -- Nothing but the slots of the targets changes.
-use Rattle.std.proofs.Common.{◌≡◌, ℕ, suc, ◌+◌, ◌-◌, ◌≤◌, Bool, true, false, List, [], ◌∷◌, length, take, drop, Option, refl, sym, subst, arith}
-use Rattle.std.specs.Prelude.{if◌then◌else◌}
+use Rattle.std.proofs.Common.{◌≡◌, ℕ, ◌-◌, ◌≤◌, true, List, length, take, drop, Option, Some, sym, ap, subst, ◌∙◌, arith}
+use Rattle.std.specs.Prelude.{slice_get}
 use Rattle.std.proofs.lemmas.List.{length-take}
-use Rattle.latm.specs.declared.mux_element.MuxElement.{MuxElement}
+use Rattle.usac_cfg.specs.declared.usac_config.UsacConfig.{UsacConfig}
 use Rattle.latm.specs.declared.stream.Stream.{Stream}
+use Rattle.latm.specs.Stream.{frames_of, au_in}
+use Rattle.stream_edit.specs.Targets.{is_target}
+use Rattle.stream_edit.proofs.EditedAll.{is_edited}
 use Rattle.ipf_frame.specs.Slot.{new_slot, IsTarget}
 use Rattle.ipf_frame.proofs.Targets.{targets_made}
-use Rattle.ipf_insert.specs.Inserting.{Settled, units_before, is_target, slot_in, slots_in, elements_in, stream_in}
+use Rattle.ipf_insert.specs.Inserting.{Settled, units_before, target_slot, stream_in}
 use Rattle.ipf_insert.specs.Laws.{OnlyTargetsChange}
-use Rattle.ipf_insert.specs.Relation.{IsSlot, AreSlots, AreElements, AreInserted}
+use Rattle.ipf_insert.specs.Relation.{BecomesTarget, AreInserted}
 use Rattle.ipf_insert.specs.Rules.{au_at}
-use Rattle.ipf_insert.specs.Steps.{IsHere, IsFrom}
-use Rattle.ipf_insert.proofs.Here.{here_at, here_on, frame_at, frames_part, slots_part}
+use Rattle.ipf_insert.proofs.Here.{frame_at, frames_part, slots_part, au_there}
 use Rattle.ipf_insert.proofs.Holding.{Holds, passed_all}
 use Rattle.ipf_insert.proofs.Kept.{one_kept, open_frame, few_bytes}
-use Rattle.ipf_insert.proofs.Seeking.{here_first, from_behind}
 
 few_units : (count n : ℕ) (aus : List (List ℕ)) → count ≤ 18 → length (take count (drop n aus)) ≤ 18
 few_units count n aus le = omega (arith, le, length-take count (drop n aus))
@@ -32,28 +33,12 @@ module _ (s : Stream) (i : Settled) (targets : List ℕ) (h : Holds s i targets)
   pub target_here : (t : ℕ) (au : List ℕ) → au ≡ au_at i.aus t → is_target targets t ≡ true → IsTarget i.config i.fade (units_before i.count t i.aus) au (new_slot i.config i.fade (units_before i.count t i.aus) au)
   target_here t au here is = subst (λ (x : List ℕ). IsTarget i.config i.fade (units_before i.count t i.aus) x (new_slot i.config i.fade (units_before i.count t i.aus) x)) (sym here) (target_at t is)
 
-  slot_of : (t : ℕ) (au : List ℕ) → au ≡ au_at i.aus t → IsSlot (is_target targets t) i t au (slot_in i targets t au)
-  slot_of t au here = by_target (is_target targets t) refl
-    where
-      by_target : (b : Bool) → is_target targets t ≡ b → IsSlot b i t au (if b then new_slot i.config i.fade (units_before i.count t i.aus) au else au)
-      by_target true is = target_here t au here is
-      by_target false is = refl
-
-  slots_of_element : (t : ℕ) (slots : List (List ℕ)) → IsHere i.aus t slots → AreSlots i targets t slots (slots_in i targets t slots)
-  slots_of_element t [] here = tt
-  slots_of_element t (au ∷ slots) here = (
-    slot_of t au (here_at i.aus (au ∷ slots) t au slots refl here),
-    slots_of_element (suc t) slots (subst (λ (n : ℕ). IsHere i.aus n slots) (let n : t + 1 ≡ suc t = omega arith in n) (here_on i.aus (au ∷ slots) t au slots refl here)),
-  )
-
-  elements_of : (t : ℕ) (es : List MuxElement) → IsFrom i.aus t es → AreElements i targets t es (elements_in i targets t es)
-  elements_of t [] from = tt
-  elements_of t (e ∷ es) from = (
-    record { config = refl; slots = slots_of_element t e.slots (here_first i.aus e es t from); other = refl; tail = refl },
-    elements_of (t + length e.slots) es (from_behind i.aus e es t from),
-  )
+  -- the frame with a target's number is one that can be one
+  pub target_of : (t : ℕ) (f : UsacConfig × List ℕ) → slice_get (frames_of s) t ≡ Some f → is_target targets t ≡ true → IsTarget i.config i.fade (units_before i.count t i.aus) (au_in f) (target_slot i t (au_in f))
+  target_of t f at is = target_here t (au_in f) (au_there (frames_of s) t f at ∙ ap (λ (xs : List (List ℕ)). au_at xs t) (sym h.aus)) is
 
 pub only_targets : OnlyTargetsChange
 only_targets s count fade targets w e =
     let p = passed_all s count fade targets w e in
-    subst (λ (o : Option Settled). AreInserted o targets s (stream_in o targets s)) (sym p.found) (elements_of s p.shared targets p.holds 0 s.elements p.holds.from)
+    subst (λ (o : Option Settled). AreInserted o targets s (stream_in o targets s)) (sym p.found)
+    (is_edited (BecomesTarget p.shared) (target_slot p.shared) targets s w (λ t f at is. target_of s p.shared targets p.holds t f at is))

@@ -1,11 +1,13 @@
 -- The access units of a stream, and those of an element among them.
-use Rattle.std.proofs.Common.{◌≡◌, ℕ, zero, suc, ◌+◌, ◌-◌, ◌<◌, ◌≤◌, List, [], ◌∷◌, ◌++◌, length, take, drop, get_or, map, refl, sym, ap, ◌∙◌, arith}
+use Rattle.std.proofs.Common.{◌≡◌, ℕ, zero, suc, ◌+◌, ◌-◌, ◌<◌, ◌≤◌, List, [], ◌∷◌, ◌++◌, length, take, drop, get_or, map, Some, None, refl, sym, ap, ◌∙◌, arith}
+use Rattle.std.specs.Prelude.{slice_get}
 use Rattle.std.specs.List.{AllByRecursion}
 use Rattle.std.specs.Borrow.{Bor}
 use Rattle.std.proofs.lemmas.List.{length-map}
 use Rattle.usac_cfg.specs.declared.usac_config.UsacConfig.{UsacConfig}
 use Rattle.usac_frame.specs.declared.frame.Frame.{Frame}
 use Rattle.usac_frame.specs.AccessUnit.{IsFrame}
+use Rattle.latm.specs.Stream.{config_in, au_in}
 use Rattle.ipf_frame.specs.Laws.{AreFrames, AreSlots}
 use Rattle.ipf_insert.specs.Inserting.{units_before}
 use Rattle.ipf_insert.specs.Rules.{au_at}
@@ -108,3 +110,21 @@ part_is refs items count t is le =
 -- what the code reads at frame t
 pub au_is : (s : Sources) (t : ℕ) (r : Bor (List ℕ)) → r ≡ get_or s.aus.items t r → t < length (settled s).aus → r.now ≡ au_at (settled s).aus t
 au_is s t r is lt = ap (λ (x : Bor (List ℕ)). x.now) is ∙ refs_at s.aus.items t r (let l : t < length s.aus.items = omega (arith, lt, length-map s.aus.items (λ (x : Bor (List ℕ)). x.now)) in l)
+
+-- ---- of each frame
+
+-- the frame with a number below the number of frames
+pub at_there : (fs : List (UsacConfig × List ℕ)) (t : ℕ) → t < length fs → (f : UsacConfig × List ℕ) × (slice_get fs t ≡ Some f)
+at_there [] t lt = absurd (omega (arith, lt))
+at_there (f ∷ fs) zero lt = (f, refl)
+at_there (f ∷ fs) (suc t) lt = at_there fs t (omega (arith, lt))
+
+pub au_there : (fs : List (UsacConfig × List ℕ)) (t : ℕ) (f : UsacConfig × List ℕ) → slice_get fs t ≡ Some f → au_in f ≡ au_at (map au_in fs) t
+au_there [] t f e = absurd (let never : None ≡ Some f = e in cc)
+au_there (x ∷ fs) zero f e = sym (ap au_in (let is : x ≡ f = (let s : Some x ≡ Some f = e in cc) in is))
+au_there (x ∷ fs) (suc t) f e = au_there fs t f e
+
+pub config_there : (c : UsacConfig) (fs : List (UsacConfig × List ℕ)) (t : ℕ) (f : UsacConfig × List ℕ) → AllByRecursion (λ f. c ≡ config_in f) fs → slice_get fs t ≡ Some f → c ≡ config_in f
+config_there c [] t f same e = absurd (let never : None ≡ Some f = e in cc)
+config_there c (x ∷ fs) zero f same e = same.0 ∙ ap config_in (let is : x ≡ f = (let s : Some x ≡ Some f = e in cc) in is)
+config_there c (x ∷ fs) (suc t) f same e = config_there c fs t f same.1 e

@@ -5,10 +5,11 @@ use Rattle.usac_cfg.specs.declared.usac_config.UsacConfig.{UsacConfig}
 use Rattle.usac_cfg.specs.UsacConfig.{IsWellFormed as IsConfig}
 use Rattle.latm.specs.declared.stream.Stream.{Stream}
 use Rattle.latm.specs.Stream.{IsWellFormed, frames_of, config_in, au_in}
+use Rattle.stream_edit.specs.Edited.{elements_in}
+use Rattle.stream_edit.specs.Giving.{IsWritable}
 use Rattle.ipf_frame.specs.Laws.{AreFrames, AreSlots}
 use Rattle.ipf_insert.specs.declared.fault.InsertFault.TheVariants.{NotDeclared}
-use Rattle.ipf_insert.specs.Giving.{IsWritable}
-use Rattle.ipf_insert.specs.Inserting.{Settled, settled_of, elements_in}
+use Rattle.ipf_insert.specs.Inserting.{Settled, settled_of, target_slot}
 use Rattle.ipf_insert.specs.Rules.{frames_rule, list_rule, targets_rule, settled_rule, insert_fault}
 use Rattle.ipf_insert.specs.Steps.{AreKept, IsFrom}
 use Rattle.ipf_insert.proofs.Elements.{AreConfigs, all_small, aus_of}
@@ -29,7 +30,7 @@ pub record Holds (s : Stream) (i : Settled) (targets : List ℕ) : Type 0 where
   pub listed : IsListed i targets
   pub kept : AreKept i targets
   pub from : IsFrom i.aus 0 s.elements
-  pub writable : AllByRecursion IsWritable (elements_in i targets 0 s.elements)
+  pub writable : AllByRecursion IsWritable (elements_in (target_slot i) targets 0 s.elements)
 
 -- by the rules, of which each passed
 holds_of : (s : Stream) (i : Settled) (targets : List ℕ) → IsWellFormed s → i.aus ≡ map au_in (frames_of s) → IsConfig i.config → settled_rule (Some i) (frames_of s) s.elements targets ≡ None → Holds s i targets

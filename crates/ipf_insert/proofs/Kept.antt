@@ -13,7 +13,8 @@ use Rattle.usac_frame.specs.FrameFound.{frame_of_is}
 use Rattle.ipf_frame.specs.Payload.{new_payload}
 use Rattle.ipf_frame.specs.Slot.{slot_with, new_slot, IsOpen}
 use Rattle.ipf_insert.specs.declared.fault.InsertFault.TheVariants.{NotIndependent, AlreadyPresent, TooEarly, FirstDependent, PayloadTooLong}
-use Rattle.ipf_insert.specs.Inserting.{Settled, payload_at, is_target}
+use Rattle.stream_edit.specs.Targets.{is_target}
+use Rattle.ipf_insert.specs.Inserting.{Settled, payload_at}
 use Rattle.ipf_insert.specs.Rules.{fault_if, au_at, is_absent, is_open, frame_of_target, units_of_target}
 use Rattle.ipf_insert.specs.Steps.{IsKept, AreKept}
 use Rattle.ipf_insert.proofs.Targets.{passed, unset}

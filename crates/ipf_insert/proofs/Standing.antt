@@ -17,11 +17,10 @@ use Rattle.ipf_insert.specs.declared.sources.Sources.{Sources}
 use Rattle.ipf_insert.specs.Inserting.{Settled, settled_of, stream_in, inserted}
 use Rattle.ipf_insert.specs.Rules.{or_then, fault_if, frames_rule, places_rule, list_rule, targets_rule, settled_rule, insert_fault}
 use Rattle.ipf_insert.specs.Steps.{IfRule, settled, refs, IsReady}
-use Rattle.ipf_insert.specs.Giving.{Stands}
 use Rattle.ipf_insert.proofs.Elements.{AreConfigs, configs_of, all_small, aus_of}
 use Rattle.ipf_insert.proofs.Frames.{all_frames}
-use Rattle.ipf_insert.proofs.Targets.{on_rule, neither, passed, unset, ArePlaced, placed}
-use Rattle.ipf_insert.proofs.Writable.{writable_from, all_kept}
+use Rattle.stream_edit.proofs.Placed.{neither, ArePlaced}
+use Rattle.ipf_insert.proofs.Targets.{on_rule, passed, unset, well_listed}
 
 abbrev Pair : Type 0
 Pair = UsacConfig × List ℕ
@@ -82,7 +81,7 @@ pub listed : (i : Settled) (targets : List ℕ) → list_rule i targets ≡ None
 listed i targets e =
     let p = passed (fault_if (not (declares_preroll i.config)) NotDeclared) _ e in
     let q = passed (fault_if (nat_lt 285 (length (config_bytes i.config))) ConfigTooLong) _ p.1 in
-    let r = passed (fault_if ((i.count == 0) || nat_lt 18 i.count) BadCount) (places_rule (length i.aus) 0 0 targets) q.1 in
+    let r = passed (fault_if ((i.count == 0) || nat_lt 18 i.count) BadCount) (places_rule (length i.aus) targets) q.1 in
     let long : nat_lt 285 (length (config_bytes i.config)) ≡ false = unset _ ConfigTooLong q.0 in
     let bad = neither (i.count == 0) (nat_lt 18 i.count) (unset _ BadCount r.0) in
     record {
@@ -90,7 +89,7 @@ listed i targets e =
       short = grind (arith, long, nat_tests);
       some = grind (arith, bad.0, nat_tests);
       count = grind (arith, bad.1, nat_tests);
-      places = placed (length i.aus) 0 0 targets r.1;
+      places = well_listed (length i.aus) targets r.1;
     }
   where
     set : (b : Bool) → not b ≡ false → b ≡ true
@@ -111,18 +110,4 @@ ready s x targets w c aus bytes pass list =
       short = omega (arith, l.short, ap (λ (xs : List ℕ). length xs) bytes);
       some = l.some;
       count = l.count;
-    }
-
-pub stands : (s : Stream) (x : Sources) (targets : List ℕ) → IsWellFormed s → refs x.aus.items ≡ map au_in (frames_of s) → IsReady x → list_rule (settled x) targets ≡ None → targets_rule (settled x) s.elements [] targets ≡ None
-    → Stands x targets 0 s.elements
-stands s x targets w aus r list kept =
-    let i = settled x in
-    let l = listed i targets list in
-    record {
-      ready = r;
-      rising = l.places.rising;
-      kept = all_kept i s.elements [] targets l.places.below kept;
-      from = aus ∙ aus_of None s.elements w.elements;
-      below = omega arith;
-      writable = writable_from i s.elements targets None [] s.elements kept refl w.elements;
     }

@@ -1,69 +1,18 @@
--- Which frames are targets, and what a list of targets gives that keeps the rules.
-use Rattle.std.proofs.Common.{◌≡◌, ℕ, zero, suc, ◌+◌, ◌-◌, ◌<◌, ◌≤◌, Bool, true, false, List, [], ◌∷◌, ◌++◌, length, take, drop, get_or, All, Option, Some, None, Result, Ok, Err, refl, sym, ap, ◌∙◌, append_assoc, arith}
-use Rattle.std.specs.Prelude.{◌||◌, ◌==◌, nat_lt, not, if◌then◌else◌}
+-- The rules of the targets, one after another.
+use Rattle.std.proofs.Common.{◌≡◌, ℕ, zero, suc, ◌+◌, ◌<◌, ◌≤◌, Bool, true, false, List, [], ◌∷◌, ◌++◌, length, take, drop, get_or, Option, Some, None, sym, refl, ap, ◌∙◌, arith}
 use Rattle.std.specs.List.{AllByRecursion}
-use Rattle.std.specs.Ordering.{nat_cmp}
-use Rattle.std.specs.Result.{MatchResult, is_ok}
-use Rattle.std.specs.List.Sorted.{IsBinarySearchResult}
-use Rattle.std.proofs.lemmas.List.{get_or-take, get_or_default, length-take-le, take_more, drop_more}
-use Rattle.std.proofs.lemmas.List.Folds.{list_any_at, list_any_none}
-use Rattle.std.proofs.lemmas.List.Sorted.{searched}
-use Rattle.std.proofs.lemmas.Bool.Decides.{nat_tests}
+use Rattle.std.specs.Option.{option_map}
+use Rattle.std.proofs.lemmas.List.{get_or-take, length-take-le, take_more, drop_more}
 use Rattle.latm.specs.declared.mux_element.MuxElement.{MuxElement}
-use Rattle.ipf_frame.specs.Slot.{new_slot}
+use Rattle.stream_edit.specs.Steps.{IsRising}
+use Rattle.stream_edit.specs.Targets.{misplaced}
+use Rattle.stream_edit.proofs.Placed.{ArePlaced, placed}
 use Rattle.ipf_insert.specs.declared.fault.InsertFault.{InsertFault}
 use Rattle.ipf_insert.specs.declared.fault.InsertFault.TheVariants.{BadTarget}
 use Rattle.ipf_insert.specs.declared.fault.InsertFault.TheVariants as faults
-use Rattle.ipf_insert.specs.Inserting.{Settled, units_before, is_target, slot_in, slots_in, element_in}
+use Rattle.ipf_insert.specs.Inserting.{Settled}
 use Rattle.ipf_insert.specs.Rules.{or_then, fault_if, places_rule, target_rule, targets_rule}
-use Rattle.ipf_insert.specs.Steps.{IfRule, IsRising, AreBelow, has_target}
-
--- ---- the search
-
-is_equal : (x t : ℕ) → x ≡ t → (x == t) ≡ true
-is_equal x t e = grind (arith, e, nat_tests)
-
-is_other : (x t : ℕ) → (x ≡ t → ⊥) → (x == t) ≡ false
-is_other x t ne = grind (arith, ne, nat_tests)
-
-below_place : (targets : List ℕ) (i k t : ℕ) → ((k : ℕ) → k < i → get_or targets k 0 < t) → ((k : ℕ) → i ≤ k → k < length targets → t < get_or targets k 0) → k < length targets → get_or targets k 0 ≡ t → ⊥
-below_place targets i k t below above lt e = by_side (nat_lt k i) refl
-  where
-    here : nat_lt k i ≡ true → ⊥
-    here b = let l : k < i = grind (arith, b, nat_tests) in omega (arith, below k l, e)
-
-    there : nat_lt k i ≡ false → ⊥
-    there b = let l : i ≤ k = grind (arith, b, nat_tests) in omega (arith, above k l lt, e)
-
-    by_side : (b : Bool) → nat_lt k i ≡ b → ⊥
-    by_side true b = here b
-    by_side false b = there b
-
-pub found : (targets : List ℕ) (t : ℕ) (r : Result ℕ ℕ) → IsRising targets → IsBinarySearchResult (λ y. nat_cmp y t) targets r → is_ok r ≡ is_target targets t
-found targets t r rising is = by_result r (searched targets t r is rising)
-  where
-    none : (i : ℕ) → ((k : ℕ) → k < i → get_or targets k 0 < t) → ((k : ℕ) → i ≤ k → k < length targets → t < get_or targets k 0) → All (λ x. (x == t) ≡ false) targets
-    none i below above k d lt = ap (λ (x : ℕ). x == t) (get_or_default targets k d 0 lt) ∙ is_other (get_or targets k 0) t (below_place targets i k t below above lt)
-
-    by_result : (q : Result ℕ ℕ) → MatchResult q (λ i. (i < length targets) × (get_or targets i 0 ≡ t)) (λ i. (i ≤ length targets) × ((k : ℕ) → k < i → get_or targets k 0 < t) × ((k : ℕ) → i ≤ k → k < length targets → t < get_or targets k 0)) → is_ok q ≡ is_target targets t
-    by_result (Ok i) m = sym (list_any_at (λ x. x == t) targets i 0 m.0 (is_equal (get_or targets i 0) t m.1))
-    by_result (Err i) m = sym (list_any_none (λ x. x == t) targets (none i m.1 m.2))
-
--- ---- frames of which none is a target
-
-pub neither : (a b : Bool) → (a || b) ≡ false → (a ≡ false) × (b ≡ false)
-neither true b e = absurd (let never : true ≡ false = e in cc)
-neither false b e = (refl, e)
-
-pub kept_slots : (i : Settled) (targets : List ℕ) (first : ℕ) (slots : List (List ℕ)) → has_target targets first (length slots) ≡ false → slots_in i targets first slots ≡ slots
-kept_slots i targets first [] e = refl
-kept_slots i targets first (au ∷ slots) e =
-    let p = neither (is_target targets first) (has_target targets (suc first) (length slots)) e in
-    ap (λ (b : Bool). (if b then new_slot i.config i.fade (units_before i.count first i.aus) au else au) ∷ slots_in i targets (suc first) slots) p.0
-    ∙ ap (λ (xs : List (List ℕ)). au ∷ xs) (kept_slots i targets (suc first) slots p.1)
-
-pub kept_element : (i : Settled) (targets : List ℕ) (first : ℕ) (e : MuxElement) → has_target targets first (length e.slots) ≡ false → e ≡ element_in i targets first e
-kept_element i targets first e none = sym (ap (λ (xs : List (List ℕ)). let x : MuxElement = record { config = e.config; slots = xs; other = e.other; tail = e.tail } in x) (kept_slots i targets first e.slots none))
+use Rattle.ipf_insert.specs.Steps.{IfRule}
 
 -- ---- one rule, and then the others
 
@@ -91,34 +40,14 @@ on_rule (faults.PayloadTooLong n) P Q f h = f h
 on_rule (faults.TooLong n) P Q f h = f h
 on_rule (faults.Memory error) P Q f h = tt
 
--- ---- targets that stand where they may
+-- ---- the list of targets
 
-pub record ArePlaced (frames least : ℕ) (targets : List ℕ) : Type 0 where
-  pub below : AreBelow frames targets
-  pub above : (j : ℕ) → j < length targets → least ≤ get_or targets j 0
-  pub rising : IsRising targets
+not_mapped : (o : Option ℕ) → option_map BadTarget o ≡ None → o ≡ None
+not_mapped None e = refl
+not_mapped (Some place) e = absurd (let never : Some (BadTarget place) ≡ None = e in cc)
 
-placed_more : (frames least t : ℕ) (ts : List ℕ) → least ≤ t → t < frames → ArePlaced frames (suc t) ts → ArePlaced frames least (t ∷ ts)
-placed_more frames least t ts le lt more = record { below = (lt, more.below); above = above; rising = rising }
-  where
-    above : (j : ℕ) → j < length (t ∷ ts) → least ≤ get_or (t ∷ ts) j 0
-    above zero l = le
-    above (suc j) l = omega (arith, le, more.above j (omega (arith, l)))
-
-    rising : IsRising (t ∷ ts)
-    rising zero zero ij l = omega arith
-    rising zero (suc j) ij l = omega (arith, more.above j (omega (arith, l)))
-    rising (suc i) zero ij l = absurd (omega (arith, ij))
-    rising (suc i) (suc j) ij l = more.rising i j (omega (arith, ij)) (omega (arith, l))
-
-pub placed : (frames least place : ℕ) (targets : List ℕ) → places_rule frames least place targets ≡ None → ArePlaced frames least targets
-placed frames least place [] e = record { below = tt; above = λ j l. absurd (omega (arith, l)); rising = λ i j ij l. absurd (omega (arith, l)) }
-placed frames least place (t ∷ ts) e =
-    let p = passed (fault_if (nat_lt t least || not (nat_lt t frames)) (BadTarget place)) (places_rule frames (suc t) (suc place) ts) e in
-    let q = neither (nat_lt t least) (not (nat_lt t frames)) (unset _ (BadTarget place) p.0) in
-    let le : least ≤ t = grind (arith, q.0, nat_tests) in
-    let lt : t < frames = grind (arith, q.1, nat_tests) in
-    placed_more frames least t ts le lt (placed frames (suc t) (suc place) ts p.1)
+pub well_listed : (frames : ℕ) (targets : List ℕ) → places_rule frames targets ≡ None → ArePlaced frames 0 targets
+well_listed frames targets e = placed frames 0 0 targets (not_mapped (misplaced frames targets) e)
 
 pub rising_front : (targets : List ℕ) (n : ℕ) → n ≤ length targets → IsRising targets → IsRising (take n targets)
 rising_front targets n le rising i j ij lt =
@@ -144,26 +73,3 @@ pub targets_on : (i : Settled) (es : List MuxElement) (targets : List ℕ) (k : 
 targets_on i es targets k lt =
     ap (λ (ts : List ℕ). targets_rule i es (take k targets) ts) (drop_more targets k 0 lt)
     ∙ ap (λ (before : List ℕ). or_then (target_rule i es before (get_or targets k 0)) (targets_rule i es before (drop (k + 1) targets))) (sym (take_more targets k 0 lt))
-
--- ---- one frame on
-
-pub has_on : (targets : List ℕ) (first last : ℕ) → first < last → has_target targets first (last - first) ≡ (is_target targets first || has_target targets (first + 1) (last - (first + 1)))
-has_on targets first last lt = by_count (last - first) refl
-  where
-    by_count : (n : ℕ) → last - first ≡ n → has_target targets first n ≡ (is_target targets first || has_target targets (first + 1) (last - (first + 1)))
-    by_count zero e = absurd (omega (arith, lt, e))
-    by_count (suc n) e =
-        let k : suc first ≡ first + 1 = omega arith in
-        let m : n ≡ last - (first + 1) = omega (arith, e) in
-        ap (λ (a : ℕ). is_target targets first || has_target targets a n) k ∙ ap (λ (a : ℕ). is_target targets first || has_target targets (first + 1) a) m
-
--- ---- the slots, one on
-
-pub slots_on : (i : Settled) (targets : List ℕ) (frame : ℕ) (changed pushed slots behind : List (List ℕ)) (item new : List ℕ) → slots ≡ item ∷ behind → new ≡ slot_in i targets frame item → pushed ≡ changed ++ new ∷ []
-    → pushed ++ slots_in i targets (frame + 1) behind ≡ changed ++ slots_in i targets frame slots
-slots_on i targets frame changed pushed slots behind item new split is push =
-    ap (λ (xs : List (List ℕ)). xs ++ slots_in i targets (frame + 1) behind) push
-    ∙ append_assoc changed (new ∷ []) (slots_in i targets (frame + 1) behind)
-    ∙ ap (λ (x : List ℕ). changed ++ x ∷ slots_in i targets (frame + 1) behind) is
-    ∙ ap (λ (k : ℕ). changed ++ slot_in i targets frame item ∷ slots_in i targets k behind) (let k : frame + 1 ≡ suc frame = omega arith in k)
-    ∙ ap (λ (xs : List (List ℕ)). changed ++ slots_in i targets frame xs) (sym split)

@@ -11,14 +11,18 @@ use Rattle.latm.specs.Stream.{AreElements}
 use Rattle.latm.specs.Written.{element_text}
 use Rattle.ipf_frame.specs.Slot.{new_slot}
 use Rattle.ipf_insert.specs.declared.fault.InsertFault.TheVariants.{TooLong}
-use Rattle.ipf_insert.specs.Inserting.{Settled, units_before, is_target, slots_in, element_in, elements_in}
+use Rattle.stream_edit.specs.Edited.{slots_in, element_in, elements_in}
+use Rattle.stream_edit.specs.Giving.{IsWritable}
+use Rattle.stream_edit.specs.Steps.{AreBelow}
+use Rattle.stream_edit.specs.Targets.{is_target, has_target}
+use Rattle.stream_edit.proofs.Placed.{kept_element}
+use Rattle.stream_edit.proofs.Whole.{whole_with}
+use Rattle.ipf_insert.specs.Inserting.{Settled, units_before, target_slot}
 use Rattle.ipf_insert.specs.Rules.{or_then, fault_if, is_long, element_of, frame_of_target, units_of_target, target_rule, targets_rule}
-use Rattle.ipf_insert.specs.Giving.{IsWritable}
-use Rattle.ipf_insert.specs.Steps.{slot_count, AreBelow, AreKept, has_target}
+use Rattle.ipf_insert.specs.Steps.{slot_count, AreKept}
 use Rattle.ipf_insert.proofs.Elements.{framable}
 use Rattle.ipf_insert.proofs.Seeking.{count_last, past, leading}
-use Rattle.ipf_insert.proofs.Targets.{passed, unset, kept_element}
-use Rattle.ipf_insert.proofs.Whole.{whole_with}
+use Rattle.ipf_insert.proofs.Targets.{passed, unset}
 
 -- ---- a target that is none of these frames changes nothing in them
 
@@ -31,13 +35,13 @@ still before t m ne =
     let other : (t == m) ≡ false = grind (arith, ne, nat_tests) in
     list_any-append (λ x. x == m) before (t ∷ []) ∙ ap (λ (b : Bool). is_target before m || (b || false)) other ∙ or_false (is_target before m)
 
-slots_still : (i : Settled) (before : List ℕ) (t n : ℕ) (slots : List (List ℕ)) → ((m : ℕ) → n ≤ m → m < n + length slots → t ≡ m → ⊥) → slots_in i (before ++ t ∷ []) n slots ≡ slots_in i before n slots
+slots_still : (i : Settled) (before : List ℕ) (t n : ℕ) (slots : List (List ℕ)) → ((m : ℕ) → n ≤ m → m < n + length slots → t ≡ m → ⊥) → slots_in (target_slot i) (before ++ t ∷ []) n slots ≡ slots_in (target_slot i) before n slots
 slots_still i before t n [] ne = refl
 slots_still i before t n (au ∷ slots) ne =
-    ap (λ (b : Bool). (if b then new_slot i.config i.fade (units_before i.count n i.aus) au else au) ∷ slots_in i (before ++ t ∷ []) (suc n) slots) (still before t n (ne n (omega arith) (omega arith)))
+    ap (λ (b : Bool). (if b then new_slot i.config i.fade (units_before i.count n i.aus) au else au) ∷ slots_in (target_slot i) (before ++ t ∷ []) (suc n) slots) (still before t n (ne n (omega arith) (omega arith)))
     ∙ ap (λ (xs : List (List ℕ)). (if is_target before n then new_slot i.config i.fade (units_before i.count n i.aus) au else au) ∷ xs) (slots_still i before t (suc n) slots (λ m le lt. ne m (omega (arith, le)) (omega (arith, lt))))
 
-element_still : (i : Settled) (before : List ℕ) (t n : ℕ) (e : MuxElement) → ((m : ℕ) → n ≤ m → m < n + length e.slots → t ≡ m → ⊥) → element_in i (before ++ t ∷ []) n e ≡ element_in i before n e
+element_still : (i : Settled) (before : List ℕ) (t n : ℕ) (e : MuxElement) → ((m : ℕ) → n ≤ m → m < n + length e.slots → t ≡ m → ⊥) → element_in (target_slot i) (before ++ t ∷ []) n e ≡ element_in (target_slot i) before n e
 element_still i before t n e ne = ap (λ (xs : List (List ℕ)). with_slots xs e) (slots_still i before t n e.slots ne)
 
 -- ---- an element is short enough with all targets
@@ -47,7 +51,7 @@ no_target n zero = refl
 no_target n (suc k) = no_target (suc n) k
 
 abbrev IsShort : Settled → List ℕ → ℕ → MuxElement → Type 0
-IsShort i targets n e = length (element_text (element_in i targets n e)) ≤ 65528
+IsShort i targets n e = length (element_text (element_in (target_slot i) targets n e)) ≤ 65528
 
 module _ (i : Settled) (es : List MuxElement) (n : ℕ) (e : MuxElement) (has : (t : ℕ) → n ≤ t → t < n + length e.slots → element_of t 0 es ≡ Some (n, e)) where
   -- its own targets are short by their rule
@@ -55,7 +59,7 @@ module _ (i : Settled) (es : List MuxElement) (n : ℕ) (e : MuxElement) (has : 
   own before t le lt kept =
       let p = passed (frame_of_target i t) (or_then (units_of_target i t) (fault_if (is_long i before (element_of t 0 es)) (TooLong t))) kept in
       let q = passed (units_of_target i t) (fault_if (is_long i before (element_of t 0 es)) (TooLong t)) p.1 in
-      let no : nat_lt 65528 (length (element_text (element_in i before n e))) ≡ false = sym (ap (λ (o : Option (ℕ × MuxElement)). is_long i before o) (has t le lt)) ∙ unset _ (TooLong t) q.1 in
+      let no : nat_lt 65528 (length (element_text (element_in (target_slot i) before n e))) ≡ false = sym (ap (λ (o : Option (ℕ × MuxElement)). is_long i before o) (has t le lt)) ∙ unset _ (TooLong t) q.1 in
       grind (arith, no, nat_tests)
 
   one : (before : List ℕ) (t : ℕ) → IsShort i before n e → target_rule i es (before ++ t ∷ []) t ≡ None → IsShort i (before ++ t ∷ []) n e
@@ -80,12 +84,12 @@ module _ (i : Settled) (es : List MuxElement) (n : ℕ) (e : MuxElement) (has : 
 
   pub short_with : (targets : List ℕ) → length (element_text e) ≤ 65528 → targets_rule i es [] targets ≡ None → IsShort i targets n e
   short_with targets few kept =
-      all [] targets (subst (λ (x : MuxElement). length (element_text x) ≤ 65528) (kept_element i [] n e (no_target n (length e.slots))) few) kept
+      all [] targets (subst (λ (x : MuxElement). length (element_text x) ≤ 65528) (kept_element (target_slot i) [] n e (no_target n (length e.slots))) few) kept
 
 -- ---- all elements
 
 pub writable_from : (i : Settled) (es : List MuxElement) (targets : List ℕ) (before : Option MuxConfig) (front rest : List MuxElement) → targets_rule i es [] targets ≡ None → es ≡ front ++ rest → AreElements before rest
-    → AllByRecursion IsWritable (elements_in i targets (slot_count front) rest)
+    → AllByRecursion IsWritable (elements_in (target_slot i) targets (slot_count front) rest)
 writable_from i es targets before front [] kept cut h = tt
 writable_from i es targets before front (e ∷ rest) kept cut h =
     let f = framable before e h.0 in
@@ -93,10 +97,10 @@ writable_from i es targets before front (e ∷ rest) kept cut h =
     ap (λ (xs : List MuxElement). element_of t 0 xs) cut ∙ past front (e ∷ rest) t 0 (omega (arith, le)) ∙ ap (λ (k : ℕ). element_of t k (e ∷ rest)) (let k : 0 + slot_count front ≡ slot_count front = omega arith in k) ∙ leading e rest t (slot_count front) lt in (
       record {
         config = f.config;
-        whole = whole_with (slots_in i targets (slot_count front) e.slots) e f.whole;
+        whole = whole_with (slots_in (target_slot i) targets (slot_count front) e.slots) e f.whole;
         few = short_with i es (slot_count front) e has targets h.0.few kept;
       },
-      subst (λ (n : ℕ). AllByRecursion IsWritable (elements_in i targets n rest)) (count_last front e)
+      subst (λ (n : ℕ). AllByRecursion IsWritable (elements_in (target_slot i) targets n rest)) (count_last front e)
           (writable_from i es targets (then_in_force before e.config) (front ++ e ∷ []) rest kept (cut ∙ sym (append_assoc front (e ∷ []) rest)) h.1),
     )
 

@@ -4,4 +4,3 @@ pub mod Rules
 pub mod Relation
 pub mod Laws
 pub mod Steps
-pub mod Giving

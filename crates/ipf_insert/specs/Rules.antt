@@ -1,6 +1,6 @@
 -- Why nothing is inserted: the first rule that applies. That the rules go in this order is this project's own.
 use Rattle.std.specs.Prelude.{◌+◌, ◌-◌, ℕ, suc, Bool, true, false, not, ◌||◌, List, [], ◌∷◌, ◌++◌, length, Option, Some, None, slice_get, ◌==◌, nat_lt, if◌then◌else◌}
-use Rattle.std.specs.Option.{option_map_or}
+use Rattle.std.specs.Option.{option_map, option_map_or}
 use Rattle.usac_cfg.specs.declared.usac_config.UsacConfig.{UsacConfig}
 use Rattle.usac_cfg.specs.UsacConfig.{declares_preroll}
 use Rattle.usac_cfg.specs.Same.{same}
@@ -13,10 +13,12 @@ use Rattle.latm.specs.declared.mux_element.MuxElement.{MuxElement}
 use Rattle.latm.specs.declared.stream.Stream.{Stream}
 use Rattle.latm.specs.Stream.{frames_of, config_in, au_in}
 use Rattle.latm.specs.Written.{element_text}
+use Rattle.stream_edit.specs.Edited.{element_in}
+use Rattle.stream_edit.specs.Targets.{misplaced}
 use Rattle.ipf_frame.specs.Payload.{config_bytes}
 use Rattle.ipf_insert.specs.declared.fault.InsertFault.{InsertFault}
 use Rattle.ipf_insert.specs.declared.fault.InsertFault.TheVariants.{ConfigChanges, Frame as TooShort, NotDeclared, ConfigTooLong, BadCount, BadTarget, NotIndependent, AlreadyPresent, TooEarly, FirstDependent, PayloadTooLong, TooLong}
-use Rattle.ipf_insert.specs.Inserting.{Settled, settled_of, payload_at, element_in}
+use Rattle.ipf_insert.specs.Inserting.{Settled, settled_of, payload_at, target_slot}
 
 -- one rule, and then the others
 abbrev pub or_then : Option InsertFault → Option InsertFault → Option InsertFault
@@ -44,10 +46,9 @@ frames_rule first n (f ∷ fs) = or_then (frame_rule first n f) (frames_rule fir
 
 -- ---- the list of targets
 
--- The target at a place is below the least number that may stand there, or is no frame; and the same of those behind it.
-abbrev pub places_rule : ℕ → ℕ → ℕ → List ℕ → Option InsertFault
-places_rule frames least place [] = None
-places_rule frames least place (t ∷ ts) = or_then (fault_if (nat_lt t least || not (nat_lt t frames)) (BadTarget place)) (places_rule frames (suc t) (suc place) ts)
+-- The targets are frames of the stream, and rise.
+abbrev pub places_rule : ℕ → List ℕ → Option InsertFault
+places_rule frames targets = option_map BadTarget (misplaced frames targets)
 
 -- ---- one target
 
@@ -71,7 +72,7 @@ element_of t n (e ∷ es) = if nat_lt t (n + length e.slots) then Some (n, e) el
 -- with these targets inserted, the element has more than 8191 bytes
 abbrev pub is_long : Settled → List ℕ → Option (ℕ × MuxElement) → Bool
 is_long i targets None = false
-is_long i targets (Some x) = nat_lt 65528 (length (element_text (element_in i targets x.0 x.1)))
+is_long i targets (Some x) = nat_lt 65528 (length (element_text (element_in (target_slot i) targets x.0 x.1)))
 
 -- The target is independent, and has room for a preroll.
 abbrev pub frame_of_target : Settled → ℕ → Option InsertFault
@@ -103,7 +104,7 @@ list_rule i targets =
     or_then (fault_if (not (declares_preroll i.config)) NotDeclared)
     (or_then (fault_if (nat_lt 285 (length (config_bytes i.config))) ConfigTooLong)
     (or_then (fault_if ((i.count == 0) || nat_lt 18 i.count) BadCount)
-    (places_rule (length i.aus) 0 0 targets)))
+    (places_rule (length i.aus) targets)))
 
 abbrev pub settled_rule : Option Settled → List (UsacConfig × List ℕ) → List MuxElement → List ℕ → Option InsertFault
 settled_rule None fs es targets = Some NotDeclared

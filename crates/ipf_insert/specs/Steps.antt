@@ -1,5 +1,5 @@
 -- How far a stream was judged, and what is known of it then: for the private functions.
-use Rattle.std.specs.Prelude.{◌≡◌, ◌+◌, ◌<◌, ◌≤◌, ◌%◌, ◌^◌, ℕ, zero, suc, Bool, false, not, ◌||◌, List, [], ◌∷◌, ◌++◌, length, map, drop, get_or, Option, Some, None, Result, Ok, Err}
+use Rattle.std.specs.Prelude.{◌≡◌, ◌+◌, ◌<◌, ◌≤◌, ◌%◌, ◌^◌, ℕ, suc, Bool, not, List, [], ◌∷◌, ◌++◌, length, map, drop, Option, Some, None, Result, Ok, Err}
 use Rattle.std.specs.List.{AllByRecursion, flat_map}
 use Rattle.std.specs.Borrow.{Bor}
 use Rattle.layout.specs.Layout.{FitsOption}
@@ -20,8 +20,8 @@ use Rattle.ipf_frame.specs.Laws.{AreFrames, AreSlots}
 use Rattle.ipf_insert.specs.declared.sources.Sources.{Sources}
 use Rattle.ipf_insert.specs.declared.fault.InsertFault.{InsertFault}
 use Rattle.ipf_insert.specs.declared.fault.InsertFault.TheVariants.{ConfigChanges, Frame, NotDeclared, ConfigTooLong, BadCount, BadTarget, NotIndependent, AlreadyPresent, TooEarly, FirstDependent, PayloadTooLong, TooLong, Memory}
-use Rattle.ipf_insert.specs.Inserting.{Settled, is_target}
-use Rattle.ipf_insert.specs.Rules.{or_then, fault_if, short_rule, frame_of_target, units_of_target}
+use Rattle.ipf_insert.specs.Inserting.{Settled}
+use Rattle.ipf_insert.specs.Rules.{or_then, fault_if, short_rule, au_at, frame_of_target, units_of_target}
 
 -- This follows of a rule's refusal. Out of memory says nothing.
 abbrev pub IfRule : InsertFault → Type 0 → Type 0
@@ -95,12 +95,6 @@ pub record IsReady (s : Sources) : Type 0 where
 
 -- ---- targets
 
-abbrev pub IsRising : List ℕ → Type 0
-IsRising targets = (i j : ℕ) → i ≤ j → j < length targets → get_or targets i 0 ≤ get_or targets j 0
-
-abbrev pub AreBelow : ℕ → List ℕ → Type 0
-AreBelow n targets = AllByRecursion (λ t. t < n) targets
-
 -- The target keeps its rules, but that of the element.
 pub record IsKept (i : Settled) (t : ℕ) : Type 0 where
   pub below : t < length i.aus
@@ -109,11 +103,6 @@ pub record IsKept (i : Settled) (t : ℕ) : Type 0 where
 
 abbrev pub AreKept : Settled → List ℕ → Type 0
 AreKept i targets = AllByRecursion (IsKept i) targets
-
--- one of so many frames is a target
-abbrev pub has_target : List ℕ → ℕ → ℕ → Bool
-has_target targets first zero = false
-has_target targets first (suc n) = is_target targets first || has_target targets (suc first) n
 
 abbrev pub IsHeadOf : UsacConfig → List ℕ → FrameHead → Type 0
 IsHeadOf c au head = (rest : List Bool) × IsFrame c au (with_rest head rest)
@@ -153,3 +142,11 @@ pub record SeeksTo (es : List MuxElement) (first target : ℕ) (rest : List MuxE
   pub leads : rest ≡ element ∷ behind
   pub from : n ≤ target
   pub there : target < n + length element.slots
+
+-- ---- the change of a target
+
+-- The sources are ready, the target keeps its rules, and this is its access unit.
+pub record MayCarry (s : Sources) (t : ℕ) (au : List ℕ) : Type 0 where
+  pub ready : IsReady s
+  pub kept : IsKept (settled s) t
+  pub here : au ≡ au_at (settled s).aus t

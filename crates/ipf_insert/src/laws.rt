@@ -1,7 +1,7 @@
 //! What holds of every insertion that no rule refuses.
 //!
 //! The functions run no code; their contracts are the theorems.
-ghost use Rattle.ipf_insert.specs.Laws.{OnlyTargetsChange, StaysWellFormed, UnitsStay, TargetsCarry, RefusesMisplaced};
+ghost use Rattle.ipf_insert.specs.Laws.{OnlyTargetsChange, StaysWellFormed, UnitsStay, TargetsCarry};
 
 /// Nothing but the slots of the targets changes, and each target becomes a frame that carries the units before it.
 pub fn only_targets_change()
@@ -21,9 +21,4 @@ pub fn units_stay()
 /// Each target carries exactly the units of the frames before it, with the fade flag.
 pub fn targets_carry()
     ensures { TargetsCarry }
-{}
-
-/// The list of targets is refused at the first one that is no frame, or not larger than the one before it.
-pub fn misplaced_targets_are_refused()
-    ensures { RefusesMisplaced }
 {}

@@ -6,22 +6,16 @@ ghost use Rattle.ipf_insert.specs.Steps.{Passes, settled};
 
 use crate::fault::InsertFault;
 use crate::sources::Sources;
+use stream_edit::first_misplaced;
 
 /// Refuses a target that is no frame, or not larger than the one before it.
 fn check_places(frames: u64, targets: &[u64]) -> Result<(), InsertFault>
-    ensures { Passes result (places_rule frames 0 0 targets.now) }
+    ensures { Passes result (places_rule frames targets.now) }
 {
-    let mut least = 0;
-    for place in 0..targets.len() {
-        let target = targets[place];
-        if target < least || target >= frames {
-            return Err(InsertFault::BadTarget {
-                place: place as u64,
-            });
-        }
-        least = target + 1;
+    match first_misplaced(frames, targets) {
+        Some(place) => Err(InsertFault::BadTarget { place }),
+        None => Ok(()),
     }
-    Ok(())
 }
 
 /// The rules behind those of the frames.

@@ -1,15 +1,17 @@
 // The rules of the targets, one after another.
 ghost use Rattle.std.specs.Prelude.{◌<◌, ◌≤◌, ◌+◌, Some, [], length, IfOk};
+ghost use Rattle.stream_edit.specs.Steps.{IsRising, AreBelow};
 ghost use Rattle.ipf_insert.specs.Rules.{fault_if, au_at, is_long, frame_of_target, units_of_target, targets_rule};
-ghost use Rattle.ipf_insert.specs.Steps.{Passes, settled, IsReady, AreKept, IsRising, AreBelow, IsHere, IsFrom, slot_count, IsFramable, AreFramable, IsHeadOf, SeeksTo};
+ghost use Rattle.ipf_insert.specs.Steps.{Passes, settled, IsReady, AreKept, IsHere, IsFrom, slot_count, IsFramable, AreFramable, IsHeadOf, SeeksTo};
 ghost use Rattle.ipf_insert.specs.declared.fault.InsertFault.TheVariants as faults;
 
-use crate::changing::{changed, payload_at};
+use crate::changing::payload_at;
 use crate::fault::InsertFault;
 use crate::sources::Sources;
 use ipf_frame::is_open;
 use latm::{MuxElement, WriteFault, write_element};
 use std::alloc::{AllocError, Global};
+use stream_edit::changed;
 use usac_frame::{FrameFault, FrameHead, read_head};
 
 /// The head of a frame.
@@ -73,10 +75,11 @@ fn check_length(
     requires rising { IsRising targets.now }
     requires kept { AreKept (settled sources.now) targets.now }
     requires here { IsHere (settled sources.now).aus first element.now.slots }
+    requires below { first ≤ length (settled sources.now).aus }
     requires framable { IsFramable element.now }
     ensures { Passes result (fault_if (is_long (settled sources.now) targets.now (Some (first, element.now))) (faults.TooLong target)) }
 {
-    let changed = changed(alloc, sources, targets, first, element)?;
+    let changed = changed(alloc, sources, targets, first, sources.config, element)?;
     match write_element(alloc, &changed) {
         Ok(_) => Ok(()),
         Err(WriteFault::TooLong) => Err(InsertFault::TooLong { frame: target }),

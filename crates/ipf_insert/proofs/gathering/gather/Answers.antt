@@ -8,7 +8,7 @@ use Rattle.latm.specs.MuxConfig.{IsWellFormed as IsMux}
 use Rattle.latm.specs.MuxElement.{then_in_force}
 use Rattle.latm.specs.Stream.{AreElements}
 use Rattle.ipf_insert.specs.Steps.{IsSame, refs}
-use Rattle.ipf_insert.proofs.Elements.{small_slots, in_force_fits}
+use Rattle.stream_edit.proofs.Elements.{small_slots, in_force_fits}
 use Rattle.ipf_insert.proofs.Gathered.{small_only, split, refused_on, passes_on, added_on}
 use Rattle.ipf_insert.proofs.gathering.gather.Goals.{in-Some, in_default}
 use Rattle.ipf_insert.proofs.gathering.gather.Goals as goal

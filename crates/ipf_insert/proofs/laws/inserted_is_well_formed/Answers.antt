@@ -1,5 +1,5 @@
-use Rattle.ipf_insert.proofs.ChangedStream.{stays_well_formed}
+use Rattle.ipf_insert.proofs.ChangedStream.{stays}
 use Rattle.ipf_insert.proofs.laws.inserted_is_well_formed.Goals as goal
 
 pub returns : goal.returns
-returns c = stays_well_formed
+returns c = stays
