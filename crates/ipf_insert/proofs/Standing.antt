@@ -19,8 +19,9 @@ use Rattle.ipf_insert.specs.Rules.{or_then, fault_if, frames_rule, places_rule, 
 use Rattle.ipf_insert.specs.Steps.{IfRule, settled, refs, IsReady}
 use Rattle.ipf_insert.proofs.Elements.{AreConfigs, configs_of, all_small, aus_of}
 use Rattle.ipf_insert.proofs.Frames.{all_frames}
+use Rattle.stream_edit.specs.Targets.{misplaced}
 use Rattle.stream_edit.proofs.Placed.{neither, ArePlaced}
-use Rattle.ipf_insert.proofs.Targets.{on_rule, passed, unset, well_listed}
+use Rattle.ipf_insert.proofs.Targets.{on_rule, passed, unset, list_passed, well_listed}
 
 abbrev Pair : Type 0
 Pair = UsacConfig × List ℕ
@@ -75,6 +76,7 @@ pub record IsListed (i : Settled) (targets : List ℕ) : Type 0 where
   pub short : length (config_bytes i.config) ≤ 285
   pub some : 1 ≤ i.count
   pub count : i.count ≤ 18
+  pub placed : misplaced (length i.aus) targets ≡ None
   pub places : ArePlaced (length i.aus) 0 targets
 
 pub listed : (i : Settled) (targets : List ℕ) → list_rule i targets ≡ None → IsListed i targets
@@ -89,6 +91,7 @@ listed i targets e =
       short = grind (arith, long, nat_tests);
       some = grind (arith, bad.0, nat_tests);
       count = grind (arith, bad.1, nat_tests);
+      placed = list_passed (length i.aus) targets r.1;
       places = well_listed (length i.aus) targets r.1;
     }
   where

@@ -46,8 +46,11 @@ not_mapped : (o : Option ℕ) → option_map BadTarget o ≡ None → o ≡ None
 not_mapped None e = refl
 not_mapped (Some place) e = absurd (let never : Some (BadTarget place) ≡ None = e in cc)
 
+pub list_passed : (frames : ℕ) (targets : List ℕ) → places_rule frames targets ≡ None → misplaced frames targets ≡ None
+list_passed frames targets e = not_mapped (misplaced frames targets) e
+
 pub well_listed : (frames : ℕ) (targets : List ℕ) → places_rule frames targets ≡ None → ArePlaced frames 0 targets
-well_listed frames targets e = placed frames 0 0 targets (not_mapped (misplaced frames targets) e)
+well_listed frames targets e = placed frames 0 0 targets (list_passed frames targets e)
 
 pub rising_front : (targets : List ℕ) (n : ℕ) → n ≤ length targets → IsRising targets → IsRising (take n targets)
 rising_front targets n le rising i j ij lt =

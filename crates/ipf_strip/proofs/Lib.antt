@@ -3,3 +3,4 @@ pub mod Places
 pub mod Passed
 pub mod StrippedStreams
 pub mod ImmediateLists
+pub mod UndoneInsertions
