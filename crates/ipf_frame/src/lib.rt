@@ -3,8 +3,8 @@
 //!
 //! A carried access unit has no preroll of its own. A new preroll has the configuration, the fade flag, and the access units,
 //! each as it is carried. A target is the frame that it was but for part 0, which was absent and is the new preroll. An
-//! immediate play-out frame without its preroll is the frame that it was but for part 0, which is absent; the bits that no
-//! longer fill a byte go where they are zeros and so is asked, which undoes an insertion.
+//! immediate play-out frame without its preroll is the frame that it was but for part 0, which is absent. To undo an
+//! insertion, the bits that then do not fill a byte go too, where they are zeros.
 #![tactic(auto)]
 
 mod changing;
