@@ -8,8 +8,8 @@ use Rattle.commands.specs.declared.frame_end.FrameEnd.{FrameEnd}
 use Rattle.commands.specs.declared.frame_end.FrameEnd.TheVariants as ends
 use Rattle.commands.specs.Handing.{HandedOver, WroteLess}
 use Rattle.commands.proofs.Handing.{append-append, handed-stopped, less_behind, less_in_front}
-use Rattle.ipf_insert.specs.declared.inserter.Given.{Given}
-use Rattle.ipf_insert.specs.Giving.{given, GivesNext}
+use Rattle.stream_edit.specs.declared.editor.Given.{Given}
+use Rattle.stream_edit.specs.Giving.{given, GivesNext}
 use Rattle.editing.specs.Runs.{frame_of, run_of, WritesBytes}
 use Rattle.editing.proofs.Written.{some_bytes}
 

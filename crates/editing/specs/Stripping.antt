@@ -1,11 +1,13 @@
 -- What `strip` does with a stream: it refuses it by the first rule that applies, or writes it without the prerolls of its targets.
-use Rattle.std.specs.Prelude.{◌≡◌, ℕ, List, Some}
+use Rattle.std.specs.Prelude.{◌≡◌, ℕ, List, Some, None}
 use Rattle.std.specs.declared.option.Option.{Option}
 use Rattle.std.specs.Option.{option_and_then}
 use Rattle.latm.specs.declared.stream.Stream.{Stream}
 use Rattle.tool_text.specs.declared.refusal.Refusal.{Refusal}
 use Rattle.ipf_frame.specs.declared.stripping.Tail.{Tail}
-use Rattle.ipf_strip.specs.Rules.{strip_fault}
+use Rattle.latm.specs.Stream.{frames_of}
+use Rattle.ipf_strip.specs.declared.fault.StripFault.{StripFault}
+use Rattle.ipf_strip.specs.Rules.{frames_rule, strip_fault}
 use Rattle.ipf_strip.specs.Stripping.{stripped, immediate_list}
 use Rattle.commands.specs.Wholes.{WholeCommand}
 use Rattle.editing.specs.declared.strip.StripTargets.{StripTargets}
@@ -17,6 +19,11 @@ use Rattle.editing.specs.Runs.{run_of}
 abbrev pub targets_to_strip : StripTargets → Stream → List ℕ
 targets_to_strip (Each numbers) stream = numbers
 targets_to_strip All stream = immediate_list stream
+
+-- why they cannot be listed, if they cannot: all are asked for, and a frame cannot be read
+abbrev pub list_fault : StripTargets → Stream → Option StripFault
+list_fault (Each numbers) stream = None
+list_fault All stream = frames_rule 0 (frames_of stream)
 
 -- why it is refused, if it is
 abbrev pub refusal_to_strip : Tail → StripTargets → Stream → Option Refusal

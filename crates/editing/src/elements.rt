@@ -2,15 +2,15 @@
 ghost use Rattle.std.specs.Prelude.{◌≡◌, ◌≢◌, ℕ, ◌<◌, All, Ok, Err, IfOk};
 ghost use Rattle.commands.specs.OneFrame.{CausedBy};
 ghost use Rattle.latm.specs.Written.{element_text, Frames};
-ghost use Rattle.ipf_insert.specs.Giving.{given, IsWritable};
+ghost use Rattle.stream_edit.specs.Giving.{given, IsWritable};
 ghost use Rattle.editing.specs.Runs.{frame_of, run_of, WritesBytes};
 
 use bit_core::Octets;
 use commands::{FrameEnd, give_all};
-use ipf_insert::{Given, Inserter};
 use latm::{MuxElement, WriteFault, framed};
 use outside::Sink;
 use std::alloc::{AllocError, Global};
+use stream_edit::{Change, Editor, Given};
 
 /// Bytes as they are, for what their type says of them.
 fn in_range(bytes: &[u8]) -> &[u8]
@@ -59,21 +59,21 @@ fn give_one<K: Sink>(alloc: Global, one: Given, out: &mut K) -> Result<(), Frame
     }
 }
 
-/// Writes the elements of an insertion, one after another.
+/// Writes the elements of a changed stream, one after another.
 ///
 /// Errors: `WriteFault`, or `Memory`, before the last byte.
-pub fn give_elements<K: Sink>(
+pub fn give_elements<C: Change + Drop, K: Sink>(
     alloc: Global,
-    inserter: Inserter,
+    editor: Editor<'_, C>,
     out: &mut K,
 ) -> Result<(), FrameEnd>
-    ensures writes { WritesBytes (run_of inserter.entry) (K.written out.old) (K.written out.new) result }
+    ensures writes { WritesBytes (run_of editor.entry) (K.written out.old) (K.written out.new) result }
     ensures caused { (core : ℕ) → CausedBy (K.faults out.old) (K.faults out.new) core core result }
     ensures calm_out { K.calm out.old → K.calm out.new }
     ensures calm_writes { K.calm out.old → result ≢ Err FrameEnd.WriteFault }
 {
-    let mut inserter = inserter;
-    while let Some(one) = inserter.next(alloc)? {
+    let mut editor = editor;
+    while let Some(one) = editor.next(alloc)? {
         give_one(alloc, one, out)?;
     }
     Ok(())

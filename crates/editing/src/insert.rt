@@ -1,9 +1,9 @@
 // The command `insert` on a stream.
 use crate::elements::give_elements;
-use crate::insert_refusal::end_of;
+use crate::refusals::insert_end;
 use crate::targets::Targets;
 use commands::{FrameEnd, Whole};
-use ipf_insert::Inserter;
+use ipf_insert::inserter;
 use latm::Stream;
 use outside::Sink;
 use std::alloc::Global;
@@ -28,9 +28,9 @@ impl Whole for Insert {
     /// Tries all rules, and then writes element after element.
     fn give<K: Sink>(&self, alloc: Global, stream: &Stream, out: &mut K) -> Result<(), FrameEnd> {
         let targets = self.targets.list(alloc, stream.frames())?;
-        let inserter = match Inserter::new(alloc, stream, self.count, self.fade, &targets) {
+        let inserter = match inserter(alloc, stream, self.count, self.fade, &targets) {
             Ok(inserter) => inserter,
-            Err(fault) => return Err(end_of(&fault)),
+            Err(fault) => return Err(insert_end(&fault)),
         };
         give_elements(alloc, inserter, out)
     }

@@ -1,13 +1,13 @@
 //! Commands that change a stream as a whole: it is read to its end, and nothing is written before all rules hold.
 //!
-//! [`Insert`] makes immediate play-out frames of frames of a stream. [`Targets`] are the frames that such a command is asked to
-//! change, and [`laws`] says which ones `every:N` means.
+//! [`Insert`] makes immediate play-out frames of frames of a stream, and [`Strip`] takes their prerolls out again. [`Targets`] and
+//! [`StripTargets`] are the frames that a command is asked to change, and [`laws`] says which ones `every:N` means.
 #![tactic(auto)]
 
 mod elements;
 mod insert;
-mod insert_refusal;
 pub mod laws;
+mod refusals;
 mod strip;
 mod targets;
 #[cfg(test)]
