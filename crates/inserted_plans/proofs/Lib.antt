@@ -1,1 +1,4 @@
-
+pub mod Lists
+pub mod Inserted
+pub mod Alike
+pub mod Whole
