@@ -2,3 +2,5 @@ pub mod Lists
 pub mod Inserted
 pub mod Alike
 pub mod Whole
+pub mod Starting
+pub mod Joining
