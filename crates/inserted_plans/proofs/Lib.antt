@@ -4,3 +4,5 @@ pub mod Alike
 pub mod Whole
 pub mod Starting
 pub mod Joining
+pub mod Beginnings
+pub mod Cuts

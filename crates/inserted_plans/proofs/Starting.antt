@@ -2,7 +2,7 @@
 use Rattle.std.proofs.Common.{◌≡◌, ℕ, suc, ◌+◌, ◌-◌, ◌<◌, ◌≤◌, true, List, [], ◌∷◌, ◌++◌, length, map, take, drop, Option, Some, None, refl, sym, ap, subst, ◌∙◌, arith, inr}
 use Rattle.std.specs.Prelude.{slice_get}
 use Rattle.std.proofs.lemmas.List.{length-map, length-take-le, length-drop, append_assoc}
-use Rattle.std.proofs.Math.Seq.{take-add}
+use Rattle.std.proofs.Math.Seq.{take-add, take-append-add}
 use Rattle.usac_cfg.specs.declared.usac_config.UsacConfig.{UsacConfig}
 use Rattle.usac_frame.specs.Units.{UnitValue}
 use Rattle.preroll.specs.Carrying.{Carried, Shown, units_in}
@@ -27,13 +27,9 @@ abbrev first_units : List Shown → List UnitValue
 first_units [] = []
 first_units (f ∷ fs) = units_in f.carried
 
-take_behind : (xs ys : List UnitValue) (n : ℕ) → take (length xs + n) (xs ++ ys) ≡ xs ++ take n ys
-take_behind [] ys n = ap (λ (k : ℕ). take k ys) (let q : 0 + n ≡ n = omega arith in q)
-take_behind (x ∷ xs) ys n = ap (λ (k : ℕ). take k (x ∷ xs ++ ys)) (let q : length (x ∷ xs) + n ≡ suc (length xs + n) = omega arith in q) ∙ ap (λ (zs : List UnitValue). x ∷ zs) (take_behind xs ys n)
-
 units_before : (fs : List Shown) (t : ℕ) → take (head_of fs + t) (units_of fs) ≡ first_units fs ++ take t (own_units fs)
 units_before [] t = let none : List UnitValue = [] in ap (λ (k : ℕ). take k none) (let q : 0 + t ≡ t = omega arith in q)
-units_before (f ∷ fs) t = take_behind (units_in f.carried) (own_units (f ∷ fs)) t
+units_before (f ∷ fs) t = take-append-add (units_in f.carried) (own_units (f ∷ fs)) t
 
 part_before : (us : List UnitValue) (t count : ℕ) → count ≤ t → take t us ≡ take (t - count) us ++ take count (drop (t - count) us)
 part_before us t count le = ap (λ (n : ℕ). take n us) (let q : t ≡ (t - count) + count = omega (arith, le) in q) ∙ take-add (t - count) count us
