@@ -2,6 +2,7 @@
 use Rattle.std.proofs.Common.{◌≡◌, ℕ, zero, suc, ◌+◌, ◌≤◌, Bool, true, false, List, [], ◌∷◌, ◌++◌, length, map, take, drop, Option, Some, None, refl, sym, ap, ◌∙◌, arith}
 use Rattle.std.specs.Prelude.{slice_get, ℤ}
 use Rattle.std.specs.Option.{option_map}
+use Rattle.std.proofs.lemmas.List.{length-map}
 use Rattle.usac_cfg.specs.declared.usac_config.UsacConfig.{UsacConfig}
 use Rattle.usac_frame.specs.Units.{UnitValue}
 use Rattle.preroll.specs.Carrying.{Shown, units_in}
@@ -14,7 +15,7 @@ use Rattle.ipf_insert.specs.Inserting.{is_target, inserted}
 use Rattle.ipf_insert.specs.Laws.{unit_of_frame}
 use Rattle.inserted_plans.specs.Insertion.{Insertion, IsAllowed, coded, old_frames, new_frames}
 use Rattle.inserted_plans.specs.Laws.{DecodeAlike, DecodesAlike}
-use Rattle.inserted_plans.proofs.Inserted.{keeps, stays, target_late}
+use Rattle.inserted_plans.proofs.Inserted.{keeps, as_many, stays, target_late}
 use Rattle.inserted_plans.proofs.Lists.{get_mapped, some_same}
 
 -- the units of the frames themselves
@@ -28,17 +29,18 @@ own_units_are (f ∷ fs) = ap (λ (us : List UnitValue). unit_of_frame f ∷ us)
 -- ---- of lists of what frames show
 
 module _ (d : Definitions) where
-  alike : (old new : List Shown) → own_units new ≡ own_units old → slice_get new 0 ≡ slice_get old 0 → DecodeAlike d old new
-  alike [] [] us first = record { units = refl; head = refl; alone = refl; left = λ j. refl }
-  alike [] (g ∷ gs) us first = absurd (let never : Some g ≡ None = first in cc)
-  alike (f ∷ fs) [] us first = absurd (let never : None ≡ Some f = first in cc)
-  alike (f ∷ fs) (g ∷ gs) us first =
+  alike : (old new : List Shown) → length new ≡ length old → own_units new ≡ own_units old → slice_get new 0 ≡ slice_get old 0 → DecodeAlike d old new
+  alike [] [] many us first = record { many = many; units = refl; head = refl; alone = refl; left = λ j. refl }
+  alike [] (g ∷ gs) many us first = absurd (let never : Some g ≡ None = first in cc)
+  alike (f ∷ fs) [] many us first = absurd (let never : None ≡ Some f = first in cc)
+  alike (f ∷ fs) (g ∷ gs) many us first =
       let is : g ≡ f = some_same g f first in
       let carried : units_in g.carried ≡ units_in f.carried = ap (λ (x : Shown). units_in x.carried) is in
       let units : units_of (g ∷ gs) ≡ units_of (f ∷ fs) = ap (λ (ks : List UnitValue). ks ++ own_units (g ∷ gs)) carried ∙ ap (λ (xs : List UnitValue). units_in f.carried ++ xs) us in
       let head : head_of (g ∷ gs) ≡ head_of (f ∷ fs) = ap (λ (xs : List UnitValue). length xs) carried in
       let config : g.config ≡ f.config = ap (λ (x : Shown). x.config) is in
       record {
+        many = many;
         units = units;
         head = head;
         alone =
@@ -70,7 +72,10 @@ same_units i w =
     ∙ (let k = keeps i w in k.units)
     ∙ sym (own_units_are (frames_of i.stream))
 
+pub shown_many : (i : Insertion) → IsAllowed i → length (map coded_shown (new_frames i)) ≡ length (map coded_shown (old_frames i))
+shown_many i w = length-map (new_frames i) coded_shown ∙ as_many i w ∙ sym (length-map (old_frames i) coded_shown)
+
 pub decodes_alike : (d : Definitions) → DecodesAlike d
 decodes_alike d i w =
-    alike d (map coded_shown (old_frames i)) (map coded_shown (new_frames i)) (same_units i w)
+    alike d (map coded_shown (old_frames i)) (map coded_shown (new_frames i)) (shown_many i w) (same_units i w)
     (get_mapped coded_shown (new_frames i) 0 ∙ ap (λ (o : Option Coded). option_map coded_shown o) (first_stays i w) ∙ sym (get_mapped coded_shown (old_frames i) 0))

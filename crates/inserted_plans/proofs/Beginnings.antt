@@ -108,5 +108,5 @@ begins fs (Some i) into at before blocks =
     (sym into.1) (begins_inserted i into.0 at before blocks)
 
 pub gives_alike : (d : Definitions) (fs : List Coded) (o : Option Insertion) → IsInto fs o → DecodeAlike d (map coded_shown fs) (map coded_shown (stream_behind fs o))
-gives_alike d fs None into = record { units = refl; head = refl; alone = refl; left = λ j. refl }
+gives_alike d fs None into = record { many = refl; units = refl; head = refl; alone = refl; left = λ j. refl }
 gives_alike d fs (Some i) into = subst (λ (xs : List Coded). DecodeAlike d (map coded_shown xs) (map coded_shown (new_frames i))) (sym into.1) (decodes_alike d i into.0)

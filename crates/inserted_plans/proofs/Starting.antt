@@ -41,7 +41,7 @@ first_config (f ∷ fs) c e = (f, refl, some_same f.config c e)
 
 -- ---- a target
 
-module _ (warm : UsacConfig → ℕ) (i : Insertion) (w : IsAllowed i) (t to : ℕ) (is : IsWarmTarget warm i t) (lt : t < to) (within : to ≤ length (old_frames i)) where
+module _ (warm : UsacConfig → ℕ) (i : Insertion) (w : IsAllowed i) (t to : ℕ) (is : IsWarmTarget warm i t) (lt : t < to) (within : to ≤ length (new_frames i)) where
   abbrev own : List UnitValue
   own = map unit_of_frame (frames_of i.stream)
 
@@ -57,10 +57,10 @@ module _ (warm : UsacConfig → ℕ) (i : Insertion) (w : IsAllowed i) (t to : �
   units_long : length units ≡ i.count
   units_long =
       let long : length own ≡ length (old_frames i) = length-map (frames_of i.stream) unit_of_frame ∙ sym (length-map (frames_of i.stream) coded) in
-      length-take-le i.count (drop (t - i.count) own) (omega (arith, length-drop (t - i.count) own, long, lt, within, late))
+      length-take-le i.count (drop (t - i.count) own) (omega (arith, length-drop (t - i.count) own, long, lt, within, as_many i w, late))
 
   frame_there : (f : Coded) × (slice_get (new_frames i) t ≡ Some f)
-  frame_there = there (new_frames i) t (omega (arith, lt, within, as_many i w))
+  frame_there = there (new_frames i) t (omega (arith, lt, within))
 
   config_is : is.config ≡ config i w
   config_is = let f = first_config (new_frames i) is.config is.is in sym f.2 ∙ config_behind i w 0 f.0 f.1
@@ -93,7 +93,7 @@ module _ (warm : UsacConfig → ℕ) (i : Insertion) (w : IsAllowed i) (t to : �
   }
 
   pub part_of : IsWholeStream (old_frames i) → IsPart (new_part i t to)
-  part_of h = record { stream = whole_behind i w h; some = lt; within = omega (arith, within, as_many i w) }
+  part_of h = record { stream = whole_behind i w h; some = lt; within = within }
 
 pub targets_begin_warm : TargetsBeginWarm
 targets_begin_warm warm i t to w h is lt within =

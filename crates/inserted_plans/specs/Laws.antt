@@ -22,8 +22,10 @@ use Rattle.inserted_plans.specs.Changes.{Change, IsChange, BeginsNoFade, old_pla
 abbrev pub StaysWhole : Type 0
 StaysWhole = (i : Insertion) → IsAllowed i → IsWholeStream (old_frames i) → IsWholeStream (new_frames i)
 
--- Two streams have the same units; and on one core, each decoded alone, they give the same blocks, and leave the same behind each frame.
+-- Two streams have as many frames and the same units; and on one core, each decoded alone, they give the same blocks, and leave the same
+-- before each frame.
 pub record DecodeAlike (d : Definitions) (old new : List Shown) : Type 0 where
+  pub many : length new ≡ length old
   pub units : units_of new ≡ units_of old
   pub head : head_of new ≡ head_of old
   pub alone : alone d new ≡ alone d old
@@ -53,7 +55,7 @@ pub record StartsSoundly (warm : UsacConfig → ℕ) (p : Part) : Type 0 where
   pub sound : IsSoundPlan warm (p ∷ [])
 
 abbrev pub TargetsBeginWarm : Type 0
-TargetsBeginWarm = (warm : UsacConfig → ℕ) (i : Insertion) (t to : ℕ) → IsAllowed i → IsWholeStream (old_frames i) → IsWarmTarget warm i t → t < to → to ≤ length (old_frames i) → StartsSoundly warm (new_part i t to)
+TargetsBeginWarm = (warm : UsacConfig → ℕ) (i : Insertion) (t to : ℕ) → IsAllowed i → IsWholeStream (old_frames i) → IsWarmTarget warm i t → t < to → to ≤ length (new_frames i) → StartsSoundly warm (new_part i t to)
 
 -- the configuration of the last stream of a plan
 abbrev pub last_config : List Part → Option UsacConfig
@@ -68,9 +70,18 @@ pub record JoinsSoundly (warm : UsacConfig → ℕ) (p : Part) : Type 0 where
   pub behind : (ps : List Part) → IsSoundPlan warm ps → AreLevel (last_config ps) (stream_config p.stream) → IsSoundPlan warm (ps ++ p ∷ [])
 
 abbrev pub TargetsJoin : Type 0
-TargetsJoin = (warm : UsacConfig → ℕ) (i : Insertion) (t to : ℕ) → IsAllowed i → IsWholeStream (old_frames i) → IsWarmTarget warm i t → t < to → to ≤ length (old_frames i) → JoinsSoundly warm (new_part i t to)
+TargetsJoin = (warm : UsacConfig → ℕ) (i : Insertion) (t to : ℕ) → IsAllowed i → IsWholeStream (old_frames i) → IsWarmTarget warm i t → t < to → to ≤ length (new_frames i) → JoinsSoundly warm (new_part i t to)
 
 -- ---- plans
+
+-- A sound plan stays sound, and its cut stays the same: its parts begin with their streams, or at frames that carried units before, and
+-- these are no targets.
+pub record StaysSound (d : Definitions) (cs : List Change) : Type 0 where
+  pub sound : IsSoundPlan d.warm (new_plan cs)
+  pub cut : cut_plan d (new_plan cs) ≡ cut_plan d (old_plan cs)
+
+abbrev pub PlansStaySound : Definitions → Type 0
+PlansStaySound d = (cs : List Change) → AllByRecursion IsChange cs → IsSoundPlan d.warm (old_plan cs) → StaysSound d cs
 
 -- The cut of the plan behind the insertions has as many blocks as that of the plan before, and these are the same, but where a part
 -- behind the first begins at a fading target.

@@ -1,7 +1,7 @@
 //! What holds of every insertion that no rule refuses, and of plans over its stream.
 //!
 //! The functions run no code; their contracts are the theorems.
-ghost use Rattle.inserted_plans.specs.Laws.{StaysWhole, DecodesAlike, TargetsBeginWarm, TargetsJoin, CutsWithFades, CutsAlike};
+ghost use Rattle.inserted_plans.specs.Laws.{StaysWhole, DecodesAlike, TargetsBeginWarm, TargetsJoin, PlansStaySound, CutsWithFades, CutsAlike};
 
 use core_iface::Core;
 
@@ -23,6 +23,11 @@ pub fn targets_begin_warm()
 /// There it is a sound join too, behind each other configuration of equal rate and channels.
 pub fn targets_join()
     ensures { TargetsJoin }
+{}
+
+/// A sound plan is one behind insertions too, with the same cut.
+pub fn plans_stay_sound<C: Core>()
+    ensures { PlansStaySound C.does }
 {}
 
 /// The cut of a plan over inserted streams is that of the plan over the streams themselves, but for the blends at the targets.
