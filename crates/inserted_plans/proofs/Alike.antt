@@ -1,6 +1,6 @@
 -- The stream behind an insertion has the units of the stream before it, and decodes alike.
-use Rattle.std.proofs.Common.{◌≡◌, ℕ, zero, suc, ◌+◌, ◌≤◌, Bool, true, false, List, [], ◌∷◌, ◌++◌, length, map, take, drop, Option, Some, None, refl, sym, ap, ◌∙◌, arith}
-use Rattle.std.specs.Prelude.{slice_get, ℤ}
+use Rattle.std.proofs.Common.{◌≡◌, ℕ, ◌+◌, Bool, true, false, List, [], ◌∷◌, ◌++◌, length, map, take, drop, Option, Some, None, refl, sym, ap, ◌∙◌, arith}
+use Rattle.std.specs.Prelude.{slice_get}
 use Rattle.std.specs.Option.{option_map}
 use Rattle.std.proofs.lemmas.List.{length-map}
 use Rattle.usac_cfg.specs.declared.usac_config.UsacConfig.{UsacConfig}
@@ -10,7 +10,6 @@ use Rattle.latm.specs.Stream.{frames_of}
 use Rattle.plans.specs.Coded.{Coded, coded_shown}
 use Rattle.plans.specs.StreamUnits.{units_of, head_of}
 use Rattle.core_iface.specs.Decoding.{Definitions, out, after}
-use Rattle.switch_player.specs.Streams.{alone, left}
 use Rattle.ipf_insert.specs.Inserting.{is_target, inserted}
 use Rattle.ipf_insert.specs.Laws.{unit_of_frame}
 use Rattle.inserted_plans.specs.Insertion.{Insertion, IsAllowed, coded, old_frames, new_frames}

@@ -1,5 +1,5 @@
 -- How a part of a changed plan begins, and what its stream gives.
-use Rattle.std.proofs.Common.{◌≡◌, ℕ, ◌<◌, ◌≤◌, Bool, true, false, List, [], ◌∷◌, length, map, Option, Some, None, Ok, Err, refl, sym, ap, subst, ◌∙◌, arith}
+use Rattle.std.proofs.Common.{◌≡◌, ℕ, Bool, true, false, List, map, Option, Some, None, refl, sym, ap, subst, ◌∙◌, arith}
 use Rattle.std.specs.Prelude.{slice_get, ◌&&◌, if◌then◌else◌, ℤ}
 use Rattle.std.specs.Option.{option_map}
 use Rattle.usac_cfg.specs.declared.usac_config.UsacConfig.{UsacConfig}

@@ -9,13 +9,13 @@ use Rattle.usac_cfg.specs.UsacConfig.{channels}
 use Rattle.usac_frame.specs.Units.{UnitValue}
 use Rattle.preroll.specs.Carrying.{Shown, units_in, fades_in}
 use Rattle.plans.specs.Coded.{Coded, coded_shown}
-use Rattle.plans.specs.Parts.{Part, part_shown}
+use Rattle.plans.specs.Parts.{part_shown}
 use Rattle.plans.specs.StreamUnits.{units_of, head_of}
 use Rattle.core_iface.specs.Decoding.{Definitions, out}
-use Rattle.switch_player.specs.Cuts.{blocks_of, blend_first, joined, cut_behind}
+use Rattle.switch_player.specs.Cuts.{blend_first, joined, cut_behind}
 use Rattle.switch_player.specs.Streams.{alone, left}
 use Rattle.inserted_plans.specs.Changes.{Change, IsChange, BeginsNoFade, part_behind, old_plan, new_plan, is_fading, faded, with_fades}
-use Rattle.inserted_plans.specs.Laws.{CutsFaded, CutsWithFades, CutsAlike}
+use Rattle.inserted_plans.specs.Laws.{CutsWithFades, CutsAlike}
 use Rattle.inserted_plans.proofs.Alike.{own_units}
 use Rattle.inserted_plans.proofs.Beginnings.{begins, gives_alike, unfaded}
 

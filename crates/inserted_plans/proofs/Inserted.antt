@@ -9,25 +9,23 @@ use Rattle.usac_cfg.specs.declared.usac_config.UsacConfig.{UsacConfig}
 use Rattle.usac_cfg.specs.UsacConfig.{IsWellFormed as IsConfig, declares_preroll}
 use Rattle.usac_frame.specs.declared.part.ExtPart.{ExtPart}
 use Rattle.usac_frame.specs.declared.frame.Frame.{Frame}
-use Rattle.usac_frame.specs.AccessUnit.{IsFrame}
 use Rattle.usac_frame.specs.Units.{payload_length, part_bytes, first_payload, is_whole}
 use Rattle.preroll.specs.declared.fault.CarryFault.TheVariants.{NotImmediate, Split}
 use Rattle.preroll.specs.Carrying.{Carried, carried_in, carried_of, opened}
 use Rattle.preroll.specs.Payload.{preroll_of, fault_of}
 use Rattle.preroll.proofs.Judging.{carried_in_frame}
-use Rattle.latm.specs.declared.stream.Stream.{Stream}
 use Rattle.latm.specs.Stream.{frames_of, config_in, au_in}
 use Rattle.plans.specs.Coded.{Coded, coded_shown}
 use Rattle.plans.specs.Coded as plans
 use Rattle.ipf_frame.specs.Slot.{IsOpen, new_slot}
-use Rattle.ipf_insert.specs.Inserting.{Settled, units_before, is_target, slot_in, stream_in, inserted}
+use Rattle.ipf_insert.specs.Inserting.{Settled, units_before, is_target, stream_in, inserted}
 use Rattle.ipf_insert.specs.Laws.{unit_of_frame, KeepsFrames}
 use Rattle.ipf_insert.specs.Laws as inserting
 use Rattle.ipf_insert.specs.Rules.{au_at}
 use Rattle.ipf_insert.proofs.CarriedFrames.{targets_carry}
 use Rattle.ipf_insert.proofs.ChangedFrames.{frames_in, frames_are, in_length}
 use Rattle.ipf_insert.proofs.Here.{frame_at}
-use Rattle.ipf_insert.proofs.Holding.{Holds, Passed, passed_all}
+use Rattle.ipf_insert.proofs.Holding.{Passed, passed_all}
 use Rattle.ipf_insert.proofs.Kept.{one_kept, late, open_frame}
 use Rattle.ipf_insert.proofs.KeptFrames.{units_stay}
 use Rattle.inserted_plans.specs.Insertion.{Insertion, IsAllowed, coded, old_frames, new_frames}

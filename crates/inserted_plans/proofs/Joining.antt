@@ -1,5 +1,5 @@
 -- A target is a sound join behind each other configuration of equal rate and channels.
-use Rattle.std.proofs.Common.{◌≡◌, ℕ, List, [], ◌∷◌, ◌++◌, Option, Some, None}
+use Rattle.std.proofs.Common.{ℕ, List, [], ◌∷◌, ◌++◌, Option}
 use Rattle.usac_cfg.specs.declared.usac_config.UsacConfig.{UsacConfig}
 use Rattle.plans.specs.WholeStream.{stream_config}
 use Rattle.plans.specs.Level.{AreLevel}

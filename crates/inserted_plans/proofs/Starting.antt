@@ -1,5 +1,5 @@
 -- A target is a sound start of a whole stream behind an insertion.
-use Rattle.std.proofs.Common.{◌≡◌, ℕ, suc, ◌+◌, ◌-◌, ◌<◌, ◌≤◌, true, List, [], ◌∷◌, ◌++◌, length, map, take, drop, Option, Some, None, refl, sym, ap, subst, ◌∙◌, arith, inr}
+use Rattle.std.proofs.Common.{◌≡◌, ℕ, ◌+◌, ◌-◌, ◌<◌, ◌≤◌, List, [], ◌∷◌, ◌++◌, length, map, take, drop, Some, None, refl, sym, ap, ◌∙◌, arith, inr}
 use Rattle.std.specs.Prelude.{slice_get}
 use Rattle.std.proofs.lemmas.List.{length-map, length-take-le, length-drop, append_assoc}
 use Rattle.std.proofs.Math.Seq.{take-add, take-append-add}
@@ -12,10 +12,10 @@ use Rattle.plans.specs.WholeStream.{IsWholeStream, stream_config}
 use Rattle.plans.specs.StreamUnits.{units_of, head_of, IsFaithful}
 use Rattle.plans.specs.Parts.{IsPart}
 use Rattle.plans.specs.SoundPlan.{BeginsWarm}
-use Rattle.ipf_insert.specs.Inserting.{is_target, inserted}
+use Rattle.ipf_insert.specs.Inserting.{inserted}
 use Rattle.ipf_insert.specs.Laws.{unit_of_frame}
 use Rattle.inserted_plans.specs.Insertion.{Insertion, IsAllowed, coded, old_frames, new_frames}
-use Rattle.inserted_plans.specs.Laws.{IsWarmTarget, new_part, StartsSoundly, TargetsBeginWarm}
+use Rattle.inserted_plans.specs.Laws.{IsWarmTarget, new_part, TargetsBeginWarm}
 use Rattle.inserted_plans.proofs.Lists.{there, some_same}
 use Rattle.inserted_plans.proofs.Inserted.{keeps, as_many, target_late, config, config_behind, target_carries}
 use Rattle.inserted_plans.proofs.Alike.{own_units, own_units_are}
@@ -74,8 +74,7 @@ module _ (warm : UsacConfig → ℕ) (i : Insertion) (w : IsAllowed i) (t to : �
   faithful : IsFaithful (map coded_shown (new_frames i)) t carried
   faithful =
       let fs : List Shown = map coded_shown (new_frames i) in
-      let own_are : own_units fs ≡ own = own_units_are (frames_of (inserted i.stream i.count i.fade i.targets)) ∙ (let k = keeps i w in k.units) in
-      (
+      let own_are : own_units fs ≡ own = own_units_are (frames_of (inserted i.stream i.count i.fade i.targets)) ∙ (let k = keeps i w in k.units) in (
         first_units fs ++ take (t - i.count) own,
         units_before fs t
             ∙ ap (λ (us : List UnitValue). first_units fs ++ us) (ap (λ (us : List UnitValue). take t us) own_are ∙ part_before own t i.count late)

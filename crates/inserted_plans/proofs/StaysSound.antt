@@ -1,20 +1,18 @@
 -- A sound plan stays sound behind insertions, and its cut stays the same.
-use Rattle.std.proofs.Common.{◌≡◌, ℕ, ◌+◌, ◌<◌, ◌≤◌, Bool, true, false, List, [], ◌∷◌, ◌++◌, length, map, take, Option, Some, None, Result, Ok, Err, refl, sym, ap, subst, ◌∙◌, arith, ◌⊎◌, inl, inr}
+use Rattle.std.proofs.Common.{◌≡◌, ℕ, ◌+◌, Bool, true, false, List, [], ◌∷◌, length, map, take, Option, Some, None, Ok, Err, refl, sym, ap, subst, ◌∙◌, arith, ◌⊎◌, inl, inr}
 use Rattle.std.specs.Prelude.{slice_get, ◌&&◌}
 use Rattle.std.specs.Option.{option_map}
 use Rattle.std.specs.List.{AllByRecursion}
-use Rattle.std.proofs.lemmas.List.{length-map}
 use Rattle.usac_cfg.specs.declared.usac_config.UsacConfig.{UsacConfig}
 use Rattle.usac_cfg.specs.UsacConfig.{IsWellFormed as IsConfig}
 use Rattle.usac_frame.specs.Units.{UnitValue}
-use Rattle.preroll.specs.declared.fault.CarryFault.{CarryFault}
 use Rattle.preroll.specs.declared.fault.CarryFault.TheVariants.{NotImmediate}
 use Rattle.preroll.specs.Carrying.{Carried}
 use Rattle.plans.specs.Coded.{Coded, coded_shown, CarriesUnits}
 use Rattle.plans.specs.Level.{AreLevel}
 use Rattle.plans.specs.WholeStream.{IsWholeStream, stream_config}
 use Rattle.plans.specs.StreamUnits.{units_of, head_of}
-use Rattle.plans.specs.Parts.{Part, IsPart}
+use Rattle.plans.specs.Parts.{IsPart}
 use Rattle.plans.specs.SoundPlan.{BeginsWarm, AreJoined, IsSoundPlan}
 use Rattle.core_iface.specs.Decoding.{Definitions}
 use Rattle.switch_player.proofs.PartsShown.{carried_shown}
@@ -106,8 +104,7 @@ module _ (d : Definitions) where
   joined_stay : (before : Option UsacConfig) (cs : List Change) → AllByRecursion IsChange cs → AreJoined d.warm before (old_plan cs) → AreJoined d.warm before (new_plan cs)
   joined_stay before [] h j = tt
   joined_stay before (c ∷ cs) h j =
-      let same : stream_config (part_behind c).stream ≡ stream_config c.part.stream = same_config c.part.stream c.insertion h.0.into in
-      (
+      let same : stream_config (part_behind c).stream ≡ stream_config c.part.stream = same_config c.part.stream c.insertion h.0.into in (
         part_stays c h.0 j.0,
         subst (λ (x : Option UsacConfig). AreLevel before x) (sym same) j.1,
         warm_stays c h.0 j.2,
@@ -121,8 +118,7 @@ module _ (d : Definitions) where
   sound_stays : (cs : List Change) → AllByRecursion IsChange cs → IsSoundPlan d.warm (old_plan cs) → IsSoundPlan d.warm (new_plan cs)
   sound_stays [] h s = tt
   sound_stays (c ∷ cs) h s =
-      let same : stream_config (part_behind c).stream ≡ stream_config c.part.stream = same_config c.part.stream c.insertion h.0.into in
-      (
+      let same : stream_config (part_behind c).stream ≡ stream_config c.part.stream = same_config c.part.stream c.insertion h.0.into in (
         part_stays c h.0 s.0,
         start_stays c h.0 s.1,
         subst (λ (x : Option UsacConfig). AreJoined d.warm x (new_plan cs)) (sym same) (joined_stay (stream_config c.part.stream) cs h.1 s.2),

@@ -1,16 +1,14 @@
 -- A whole stream stays one behind an insertion.
-use Rattle.std.proofs.Common.{◌≡◌, ℕ, ◌<◌, Bool, true, false, List, [], ◌∷◌, length, map, Option, Some, None, refl, sym, ap, subst, ◌∙◌, arith, inl, inr}
+use Rattle.std.proofs.Common.{◌≡◌, ℕ, Bool, true, false, List, [], ◌∷◌, Some, None, refl, sym, subst, ◌∙◌}
 use Rattle.std.specs.Prelude.{slice_get, All}
-use Rattle.std.proofs.lemmas.Option.{slice_get_within}
-use Rattle.usac_cfg.specs.declared.usac_config.UsacConfig.{UsacConfig}
 use Rattle.usac_cfg.specs.UsacConfig.{IsWellFormed as IsConfig}
 use Rattle.plans.specs.Coded.{Coded, IsCoded}
 use Rattle.plans.specs.WholeStream.{IsWholeStream, OpensStream}
 use Rattle.ipf_insert.specs.Inserting.{is_target}
 use Rattle.inserted_plans.specs.Insertion.{Insertion, IsAllowed, old_frames, new_frames}
 use Rattle.inserted_plans.specs.Laws.{StaysWhole}
-use Rattle.inserted_plans.proofs.Lists.{all_by_number, one_of_all, there, some_same}
-use Rattle.inserted_plans.proofs.Inserted.{as_many, stays, config, config_fits, config_before, config_behind, target_carries}
+use Rattle.inserted_plans.proofs.Lists.{all_by_number, one_of_all, some_same}
+use Rattle.inserted_plans.proofs.Inserted.{stays, config, config_fits, config_behind, target_carries}
 use Rattle.inserted_plans.proofs.Alike.{first_stays}
 
 module _ (i : Insertion) (w : IsAllowed i) where
@@ -29,8 +27,7 @@ module _ (i : Insertion) (w : IsAllowed i) where
   whole_of (f ∷ fs) [] o n first h coded same = absurd (let never : None ≡ Some f = first in cc)
   whole_of (f ∷ fs) (g ∷ gs) o n first h coded same =
       let is : g ≡ f = some_same g f first in
-      let own : g.config ≡ config i w = one_of_all (λ (x : Coded). x.config ≡ config i w) (g ∷ gs) 0 g same refl in
-      (
+      let own : g.config ≡ config i w = one_of_all (λ (x : Coded). x.config ≡ config i w) (g ∷ gs) 0 g same refl in (
         all_by_number (λ (x : Coded). x.config ≡ g.config) (g ∷ gs) (λ k x e. one_of_all (λ (x : Coded). x.config ≡ config i w) (g ∷ gs) k x same e ∙ sym own),
         coded,
         subst OpensStream (sym is) h.2,

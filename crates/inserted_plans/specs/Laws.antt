@@ -3,7 +3,7 @@ use Rattle.std.specs.Prelude.{◌≡◌, ℕ, ◌≤◌, ◌<◌, true, List, []
 use Rattle.std.specs.List.{AllByRecursion}
 use Rattle.usac_cfg.specs.declared.usac_config.UsacConfig.{UsacConfig}
 use Rattle.preroll.specs.Carrying.{Shown}
-use Rattle.plans.specs.Coded.{Coded, coded_shown}
+use Rattle.plans.specs.Coded.{coded_shown}
 use Rattle.plans.specs.WholeStream.{IsWholeStream, stream_config}
 use Rattle.plans.specs.StreamUnits.{units_of, head_of}
 use Rattle.plans.specs.Level.{AreLevel}
