@@ -29,7 +29,7 @@ not_faded (Some old) f blocks = refl
 pub unfaded : (before : Option (List ℤ)) (b : Bool) (f : Option Coded) (blocks : Blocks) → b ≡ false → faded before b f blocks ≡ blocks
 unfaded before b f blocks e = ap (λ (x : Bool). faded before x f blocks) e ∙ not_faded before f blocks
 
-and_false : (a b : Bool) → b ≡ false → (a && b) ≡ false
+pub and_false : (a b : Bool) → b ≡ false → (a && b) ≡ false
 and_false true b e = e
 and_false false b e = refl
 

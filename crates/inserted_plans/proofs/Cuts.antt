@@ -14,7 +14,7 @@ use Rattle.plans.specs.StreamUnits.{units_of, head_of}
 use Rattle.core_iface.specs.Decoding.{Definitions, out}
 use Rattle.switch_player.specs.Cuts.{blend_first, joined, cut_behind}
 use Rattle.switch_player.specs.Streams.{alone, left}
-use Rattle.inserted_plans.specs.Changes.{Change, IsChange, BeginsNoFade, part_behind, old_plan, new_plan, is_fading, faded, with_fades}
+use Rattle.inserted_plans.specs.Changes.{Change, IsChange, BeginsNoFade, part_behind, old_plan, new_plan, is_fading, faded, left_behind, with_fades}
 use Rattle.inserted_plans.specs.Laws.{CutsWithFades, CutsAlike}
 use Rattle.inserted_plans.proofs.Alike.{own_units}
 use Rattle.inserted_plans.proofs.Beginnings.{begins, gives_alike, unfaded}
@@ -63,17 +63,19 @@ drop_front : (n : ℕ) (xs ys : Blocks) → length xs ≡ n → drop n (xs ++ ys
 drop_front n xs ys e = ap (λ (k : ℕ). drop k (xs ++ ys)) (sym e) ∙ drop-append_seam xs ys
 
 module _ (d : Definitions) where
+  part_length : (c : Change) (before : Option (List ℤ)) (bs rest : Blocks) → length rest ≡ length (drop (c.part.to - c.part.from) bs)
+      → length (faded before (is_fading c.insertion c.part.from) (slice_get c.part.stream c.part.from) (take (c.part.to - c.part.from) bs) ++ rest) ≡ length bs
+  part_length c before bs rest e =
+      let n = c.part.to - c.part.from in
+      let whole = ap (λ (xs : Blocks). length xs) (take-append-drop n bs) in
+      length-append (faded before (is_fading c.insertion c.part.from) (slice_get c.part.stream c.part.from) (take n bs)) rest
+      ∙ ap (λ (k : ℕ). k + length rest) (faded_length before (is_fading c.insertion c.part.from) (slice_get c.part.stream c.part.from) (take n bs))
+      ∙ ap (λ (k : ℕ). length (take n bs) + k) e
+      ∙ sym (length-append (take n bs) (drop n bs)) ∙ whole
+
   fades_length : (before : Option (List ℤ)) (cs : List Change) (bs : Blocks) → length (with_fades d before cs bs) ≡ length bs
   fades_length before [] bs = refl
-  fades_length before (c ∷ cs) bs =
-      let n = c.part.to - c.part.from in
-      let first = faded before (is_fading c.insertion c.part.from) (slice_get c.part.stream c.part.from) (take n bs) in
-      let next = Some (left d (map coded_shown c.part.stream) c.part.to) in
-      let whole = ap (λ (xs : Blocks). length xs) (take-append-drop n bs) in
-      length-append first (with_fades d next cs (drop n bs))
-      ∙ ap (λ (k : ℕ). k + length (with_fades d next cs (drop n bs))) (faded_length before (is_fading c.insertion c.part.from) (slice_get c.part.stream c.part.from) (take n bs))
-      ∙ ap (λ (k : ℕ). length (take n bs) + k) (fades_length next cs (drop n bs))
-      ∙ sym (length-append (take n bs) (drop n bs)) ∙ whole
+  fades_length before (c ∷ cs) bs = part_length c before bs (with_fades d (Some (left_behind d c.part)) cs (drop (c.part.to - c.part.from) bs)) (fades_length (Some (left_behind d c.part)) cs (drop (c.part.to - c.part.from) bs))
 
   -- ---- the cut
 
@@ -109,9 +111,8 @@ module _ (d : Definitions) where
   no_fades before [] bs h = refl
   no_fades before (c ∷ cs) bs h =
       let n = c.part.to - c.part.from in
-      let next = Some (left d (map coded_shown c.part.stream) c.part.to) in
-      ap (λ (xs : Blocks). xs ++ with_fades d next cs (drop n bs)) (unfaded before (is_fading c.insertion c.part.from) (slice_get c.part.stream c.part.from) (take n bs) h.0)
-      ∙ ap (λ (xs : Blocks). take n bs ++ xs) (no_fades next cs (drop n bs) h.1)
+      ap (λ (xs : Blocks). xs ++ with_fades d (Some (left_behind d c.part)) cs (drop n bs)) (unfaded before (is_fading c.insertion c.part.from) (slice_get c.part.stream c.part.from) (take n bs) h.0)
+      ∙ ap (λ (xs : Blocks). take n bs ++ xs) (no_fades (Some (left_behind d c.part)) cs (drop n bs) h.1)
       ∙ take-append-drop n bs
 
   -- nor does the first part, which has none before it
@@ -119,7 +120,7 @@ module _ (d : Definitions) where
   none_fades [] bs h = refl
   none_fades (c ∷ cs) bs h =
       let n = c.part.to - c.part.from in
-      ap (λ (xs : Blocks). take n bs ++ xs) (no_fades (Some (left d (map coded_shown c.part.stream) c.part.to)) cs (drop n bs) h) ∙ take-append-drop n bs
+      ap (λ (xs : Blocks). take n bs ++ xs) (no_fades (Some (left_behind d c.part)) cs (drop n bs) h) ∙ take-append-drop n bs
 
   pub cuts_with_fades : CutsWithFades d
   cuts_with_fades cs h = record {

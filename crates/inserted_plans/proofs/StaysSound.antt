@@ -22,7 +22,7 @@ use Rattle.inserted_plans.specs.Changes.{Change, IsChange, IsInto, BeginsNoFade,
 use Rattle.inserted_plans.specs.Laws.{PlansStaySound}
 use Rattle.inserted_plans.proofs.Inserted.{as_many, stays, config_fits, config_before, target_bare}
 use Rattle.inserted_plans.proofs.Alike.{first_stays}
-use Rattle.inserted_plans.proofs.Beginnings.{gives_alike}
+use Rattle.inserted_plans.proofs.Beginnings.{and_false, gives_alike}
 use Rattle.inserted_plans.proofs.Cuts.{cuts_alike}
 use Rattle.inserted_plans.proofs.Whole.{whole_behind}
 
@@ -59,14 +59,10 @@ carrying i w at f k e carries = by_target (is_target i.targets at) refl
         absurd (let never : Err NotImmediate ≡ Ok k = sym (target_bare i w at f is e) ∙ carried_shown f k fine carries in cc)
     by_target false is = is
 
-and_false : (a : Bool) → (a && false) ≡ false
-and_false true = refl
-and_false false = refl
-
 quiet : (fs : List Coded) (o : Option Insertion) → IsInto fs o → (at : ℕ) (f : Coded) (k : Carried) → slice_get fs at ≡ Some f → CarriesUnits f k → is_fading o at ≡ false
 quiet fs None into at f k e carries = refl
 quiet fs (Some i) into at f k e carries =
-    ap (λ (b : Bool). i.fade && b) (carrying i into.0 at f k (ap (λ (xs : List Coded). slice_get xs at) (sym into.1) ∙ e) carries) ∙ and_false i.fade
+    and_false i.fade (is_target i.targets at) (carrying i into.0 at f k (ap (λ (xs : List Coded). slice_get xs at) (sym into.1) ∙ e) carries)
 
 frame_stays : (fs : List Coded) (o : Option Insertion) → IsInto fs o → (at : ℕ) (f : Coded) (k : Carried) → slice_get fs at ≡ Some f → CarriesUnits f k → slice_get (stream_behind fs o) at ≡ Some f
 frame_stays fs None into at f k e carries = e

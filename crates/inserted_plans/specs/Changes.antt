@@ -60,10 +60,14 @@ faded (Some old) false f blocks = blocks
 faded (Some old) true None blocks = blocks
 faded (Some old) true (Some f) blocks = blend_first (channels f.config) old blocks
 
+-- what the stream of a part still has to give behind the part
+abbrev pub left_behind : Definitions → Part → List ℤ
+left_behind d p = left d (map coded_shown p.stream) p.to
+
 -- The blocks of the parts, behind what the part before leaves. All stay as they are, but for the first one of a part that begins at a
 -- fading target behind another part: into that one fades what the stream of the part before still has to give.
 abbrev pub with_fades : Definitions → Option (List ℤ) → List Change → List (List ℤ) → List (List ℤ)
 with_fades d before [] blocks = blocks
 with_fades d before (c ∷ cs) blocks =
     faded before (is_fading c.insertion c.part.from) (slice_get c.part.stream c.part.from) (take (c.part.to - c.part.from) blocks)
-    ++ with_fades d (Some (left d (map coded_shown c.part.stream) c.part.to)) cs (drop (c.part.to - c.part.from) blocks)
+    ++ with_fades d (Some (left_behind d c.part)) cs (drop (c.part.to - c.part.from) blocks)
