@@ -74,7 +74,7 @@ same_units i w =
 pub shown_many : (i : Insertion) → IsAllowed i → length (map coded_shown (new_frames i)) ≡ length (map coded_shown (old_frames i))
 shown_many i w = length-map (new_frames i) coded_shown ∙ as_many i w ∙ sym (length-map (old_frames i) coded_shown)
 
-pub decodes_alike : (d : Definitions) → DecodesAlike d
-decodes_alike d i w =
+pub streams_decode_alike : (d : Definitions) → DecodesAlike d
+streams_decode_alike d i w =
     alike d (map coded_shown (old_frames i)) (map coded_shown (new_frames i)) (shown_many i w) (same_units i w)
     (get_mapped coded_shown (new_frames i) 0 ∙ ap (λ (o : Option Coded). option_map coded_shown o) (first_stays i w) ∙ sym (get_mapped coded_shown (old_frames i) 0))

@@ -15,7 +15,7 @@ use Rattle.inserted_plans.specs.Changes.{IsInto, stream_behind, is_fading, faded
 use Rattle.inserted_plans.specs.Laws.{DecodeAlike}
 use Rattle.inserted_plans.proofs.Lists.{there, get_mapped}
 use Rattle.inserted_plans.proofs.Inserted.{as_many, stays, target_below, config_fits, config_before, config_behind, target_bare, target_carries}
-use Rattle.inserted_plans.proofs.Alike.{decodes_alike}
+use Rattle.inserted_plans.proofs.Alike.{streams_decode_alike}
 
 abbrev Blocks : Type 0
 Blocks = List (List ℤ)
@@ -109,4 +109,4 @@ begins fs (Some i) into at before blocks =
 
 pub gives_alike : (d : Definitions) (fs : List Coded) (o : Option Insertion) → IsInto fs o → DecodeAlike d (map coded_shown fs) (map coded_shown (stream_behind fs o))
 gives_alike d fs None into = record { many = refl; units = refl; head = refl; alone = refl; left = λ j. refl }
-gives_alike d fs (Some i) into = subst (λ (xs : List Coded). DecodeAlike d (map coded_shown xs) (map coded_shown (new_frames i))) (sym into.1) (decodes_alike d i into.0)
+gives_alike d fs (Some i) into = subst (λ (xs : List Coded). DecodeAlike d (map coded_shown xs) (map coded_shown (new_frames i))) (sym into.1) (streams_decode_alike d i into.0)

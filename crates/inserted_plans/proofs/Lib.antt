@@ -6,4 +6,4 @@ pub mod Starting
 pub mod Joining
 pub mod Beginnings
 pub mod Cuts
-pub mod StaysSound
+pub mod SoundPlans

@@ -43,5 +43,5 @@ module _ (i : Insertion) (w : IsAllowed i) where
       (all_by_number IsCoded (new_frames i) (λ t g e. coded_behind (coded_before (old_frames i) h) t g e))
       (all_by_number (λ (x : Coded). x.config ≡ config i w) (new_frames i) (λ t g e. config_behind i w t g e))
 
-pub stays_whole : StaysWhole
-stays_whole i w h = whole_behind i w h
+pub streams_stay_whole : StaysWhole
+streams_stay_whole i w h = whole_behind i w h

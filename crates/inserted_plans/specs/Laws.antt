@@ -48,14 +48,15 @@ pub record IsWarmTarget (warm : UsacConfig → ℕ) (i : Insertion) (t : ℕ) : 
 abbrev pub new_part : Insertion → ℕ → ℕ → Part
 new_part i from to = record { stream = new_frames i; from = from; to = to }
 
--- A target is a sound start of a whole stream behind the insertion: a part from there on begins warm, and is a sound plan by itself.
-pub record StartsSoundly (warm : UsacConfig → ℕ) (p : Part) : Type 0 where
+-- It is a part that begins warm, and so by itself a sound plan.
+pub record IsWarmPart (warm : UsacConfig → ℕ) (p : Part) : Type 0 where
   pub part : IsPart p
   pub warms : BeginsWarm warm p
   pub sound : IsSoundPlan warm (p ∷ [])
 
+-- A target is a sound start of a whole stream behind the insertion: each part from there on is such a part.
 abbrev pub TargetsBeginWarm : Type 0
-TargetsBeginWarm = (warm : UsacConfig → ℕ) (i : Insertion) (t to : ℕ) → IsAllowed i → IsWholeStream (old_frames i) → IsWarmTarget warm i t → t < to → to ≤ length (new_frames i) → StartsSoundly warm (new_part i t to)
+TargetsBeginWarm = (warm : UsacConfig → ℕ) (i : Insertion) (t to : ℕ) → IsAllowed i → IsWholeStream (old_frames i) → IsWarmTarget warm i t → t < to → to ≤ length (new_frames i) → IsWarmPart warm (new_part i t to)
 
 -- the configuration of the last stream of a plan
 abbrev pub last_config : List Part → Option UsacConfig
@@ -63,25 +64,26 @@ last_config [] = None
 last_config (p ∷ []) = stream_config p.stream
 last_config (p ∷ q ∷ ps) = last_config (q ∷ ps)
 
--- And it is a sound join behind each other configuration of equal rate and channels: such a part may follow a sound plan of which the last
--- stream has such a configuration.
+-- The part is soundly joined to each other configuration of equal rate and channels: it may follow a sound plan of which the last stream has
+-- such a configuration.
 pub record JoinsSoundly (warm : UsacConfig → ℕ) (p : Part) : Type 0 where
   pub joined : (before : Option UsacConfig) → AreLevel before (stream_config p.stream) → AreJoined warm before (p ∷ [])
   pub behind : (ps : List Part) → IsSoundPlan warm ps → AreLevel (last_config ps) (stream_config p.stream) → IsSoundPlan warm (ps ++ p ∷ [])
 
+-- And a target is a sound join.
 abbrev pub TargetsJoin : Type 0
 TargetsJoin = (warm : UsacConfig → ℕ) (i : Insertion) (t to : ℕ) → IsAllowed i → IsWholeStream (old_frames i) → IsWarmTarget warm i t → t < to → to ≤ length (new_frames i) → JoinsSoundly warm (new_part i t to)
 
 -- ---- plans
 
--- A sound plan stays sound, and its cut stays the same: its parts begin with their streams, or at frames that carried units before, and
--- these are no targets.
-pub record StaysSound (d : Definitions) (cs : List Change) : Type 0 where
+-- The plan is sound behind the insertions too, and its cut is the same.
+pub record PlanStays (d : Definitions) (cs : List Change) : Type 0 where
   pub sound : IsSoundPlan d.warm (new_plan cs)
   pub cut : cut_plan d (new_plan cs) ≡ cut_plan d (old_plan cs)
 
-abbrev pub PlansStaySound : Definitions → Type 0
-PlansStaySound d = (cs : List Change) → AllByRecursion IsChange cs → IsSoundPlan d.warm (old_plan cs) → StaysSound d cs
+-- So it is with each sound plan: its parts begin with their streams, or at frames that carried units before, and these are no targets.
+abbrev pub SoundPlansStay : Definitions → Type 0
+SoundPlansStay d = (cs : List Change) → AllByRecursion IsChange cs → IsSoundPlan d.warm (old_plan cs) → PlanStays d cs
 
 -- The cut of the plan behind the insertions has as many blocks as that of the plan before, and these are the same, but where a part
 -- behind the first begins at a fading target.

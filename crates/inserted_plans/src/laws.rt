@@ -1,17 +1,17 @@
 //! What holds of every insertion that no rule refuses, and of plans over its stream.
 //!
 //! The functions run no code; their contracts are the theorems.
-ghost use Rattle.inserted_plans.specs.Laws.{StaysWhole, DecodesAlike, TargetsBeginWarm, TargetsJoin, PlansStaySound, CutsWithFades, CutsAlike};
+ghost use Rattle.inserted_plans.specs.Laws.{StaysWhole, DecodesAlike, TargetsBeginWarm, TargetsJoin, SoundPlansStay, CutsWithFades, CutsAlike};
 
 use core_iface::Core;
 
 /// A whole stream stays one.
-pub fn stays_whole()
+pub fn streams_stay_whole()
     ensures { StaysWhole }
 {}
 
 /// On every core the stream decodes as before: it has the same units, though every core bit of a target moved.
-pub fn decodes_alike<C: Core>()
+pub fn streams_decode_alike<C: Core>()
     ensures { DecodesAlike C.does }
 {}
 
@@ -26,8 +26,8 @@ pub fn targets_join()
 {}
 
 /// A sound plan is one behind insertions too, with the same cut.
-pub fn plans_stay_sound<C: Core>()
-    ensures { PlansStaySound C.does }
+pub fn sound_plans_stay<C: Core>()
+    ensures { SoundPlansStay C.does }
 {}
 
 /// The cut of a plan over inserted streams is that of the plan over the streams themselves, but for the blends at the targets.

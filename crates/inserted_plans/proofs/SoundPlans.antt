@@ -1,6 +1,6 @@
 -- A sound plan stays sound behind insertions, and its cut stays the same.
 use Rattle.std.proofs.Common.{◌≡◌, ℕ, ◌+◌, Bool, true, false, List, [], ◌∷◌, length, map, take, Option, Some, None, Ok, Err, refl, sym, ap, subst, ◌∙◌, arith, ◌⊎◌, inl, inr}
-use Rattle.std.specs.Prelude.{slice_get, ◌&&◌}
+use Rattle.std.specs.Prelude.{slice_get}
 use Rattle.std.specs.Option.{option_map}
 use Rattle.std.specs.List.{AllByRecursion}
 use Rattle.usac_cfg.specs.declared.usac_config.UsacConfig.{UsacConfig}
@@ -19,7 +19,7 @@ use Rattle.switch_player.proofs.PartsShown.{carried_shown}
 use Rattle.ipf_insert.specs.Inserting.{is_target}
 use Rattle.inserted_plans.specs.Insertion.{Insertion, IsAllowed, old_frames, new_frames}
 use Rattle.inserted_plans.specs.Changes.{Change, IsChange, IsInto, BeginsNoFade, stream_behind, part_behind, old_plan, new_plan, is_fading}
-use Rattle.inserted_plans.specs.Laws.{PlansStaySound}
+use Rattle.inserted_plans.specs.Laws.{SoundPlansStay}
 use Rattle.inserted_plans.proofs.Inserted.{as_many, stays, config_fits, config_before, target_bare}
 use Rattle.inserted_plans.proofs.Alike.{first_stays}
 use Rattle.inserted_plans.proofs.Beginnings.{and_false, gives_alike}
@@ -130,5 +130,5 @@ module _ (d : Definitions) where
   sound_quiet [] h s = tt
   sound_quiet (c ∷ cs) h s = joined_quiet (stream_config c.part.stream) cs h.1 s.2
 
-  pub plans_stay_sound : PlansStaySound d
-  plans_stay_sound cs h s = record { sound = sound_stays cs h s; cut = cuts_alike d cs h (sound_quiet cs h s) }
+  pub sound_plans_stay : SoundPlansStay d
+  sound_plans_stay cs h s = record { sound = sound_stays cs h s; cut = cuts_alike d cs h (sound_quiet cs h s) }
