@@ -39,7 +39,7 @@ and_true false b e = refl
 
 -- ---- at a target
 
--- blocks that begin with a frame of which nothing is carried, and with one that is carried to
+-- a test and a blend, as the definition of the cut has it and as `faded` has it
 fade_where : (old : List ℤ) (fade : Bool) (f : Coded) (c : UsacConfig) (blocks : Blocks) → c ≡ f.config → (if fade then blend_first (channels c) old blocks else blocks) ≡ faded (Some old) fade (Some f) blocks
 fade_where old true f c blocks e = ap (λ (x : UsacConfig). blend_first (channels x) old blocks) e
 fade_where old false f c blocks e = refl

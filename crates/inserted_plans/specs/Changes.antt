@@ -53,7 +53,7 @@ abbrev pub BeginsNoFade : List Change → Type 0
 BeginsNoFade [] = Unit {0}
 BeginsNoFade (c ∷ cs) = AllByRecursion (λ b. is_fading b.insertion b.part.from ≡ false) cs
 
--- blocks of a part that begins with that frame: into the first of them fades what the part before leaves, if there is one, and if so it is to be
+-- The blocks of a part that begins with frame f. If it is fading, what the part before leaves fades into the first of them, where there is a part before.
 abbrev pub faded : Option (List ℤ) → Bool → Option Coded → List (List ℤ) → List (List ℤ)
 faded None fading f blocks = blocks
 faded (Some old) false f blocks = blocks
