@@ -1,3 +1,4 @@
 pub mod Multiples
 pub mod Written
 pub mod Running
+pub mod FileBytes

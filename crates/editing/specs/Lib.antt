@@ -4,3 +4,4 @@ pub mod InsertRefusals
 pub mod Inserting
 pub mod StripRefusals
 pub mod Stripping
+pub mod Undoing

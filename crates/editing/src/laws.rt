@@ -4,9 +4,11 @@
 ghost use Rattle.editing.specs.Inserting.{ReadsInserted};
 ghost use Rattle.editing.specs.Runs.{WritesRuns};
 ghost use Rattle.editing.specs.TargetLists.{ListsMultiples};
+ghost use Rattle.editing.specs.Undoing.{ReadsStripped, UndoesBytes};
 
 use au_stream::laws::written_streams_are_read_back;
 use ipf_insert::laws::inserted_is_well_formed;
+use ipf_strip::laws::{insertions_are_undone, stripped_is_well_formed};
 
 /// The targets of `every:N` are exactly the multiples of N from N on that are numbers of frames, each one once, in rising order.
 pub fn every_lists_multiples()
@@ -24,4 +26,19 @@ pub fn inserted_bytes_are_read_back()
 {
     inserted_is_well_formed();
     written_streams_are_read_back();
+}
+
+/// What `strip` writes of a stream is read again as the stream without the prerolls of its targets.
+pub fn stripped_bytes_are_read_back()
+    ensures { ReadsStripped }
+{
+    stripped_is_well_formed();
+    written_streams_are_read_back();
+}
+
+/// From what `insert` made of a file, `strip` with the same targets writes the file again, byte for byte.
+pub fn inserted_bytes_are_undone()
+    ensures { UndoesBytes }
+{
+    insertions_are_undone();
 }

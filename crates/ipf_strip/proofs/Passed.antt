@@ -1,5 +1,5 @@
 -- What is known of a stream where the rules hold.
-use Rattle.std.proofs.Common.{◌≡◌, ℕ, zero, suc, ◌+◌, ◌<◌, ◌≤◌, Bool, true, false, List, [], ◌∷◌, length, Option, Some, None, refl, sym, ap, subst, ◌∙◌, arith}
+use Rattle.std.proofs.Common.{◌≡◌, ℕ, zero, suc, ◌≤◌, Bool, true, false, List, [], ◌∷◌, length, Option, Some, None, refl, sym, ap, subst, ◌∙◌}
 use Rattle.std.specs.Prelude.{◌||◌, ◌==◌, not, slice_get}
 use Rattle.std.specs.List.{AllByRecursion}
 use Rattle.std.specs.Option.{option_map, option_map_or, option_or}
@@ -16,7 +16,7 @@ use Rattle.stream_edit.specs.declared.frames.FrameRef.{FrameRef}
 use Rattle.stream_edit.specs.Frames.{pair_of, pairs_of}
 use Rattle.stream_edit.specs.Edited.{elements_in}
 use Rattle.stream_edit.specs.Giving.{IsWritable}
-use Rattle.stream_edit.specs.Steps.{IsRising, AreBelow, AreSmall, TargetsMay}
+use Rattle.stream_edit.specs.Steps.{AreSmall, TargetsMay}
 use Rattle.stream_edit.specs.Targets.{is_target, misplaced}
 use Rattle.stream_edit.proofs.Elements.{small_frames}
 use Rattle.stream_edit.proofs.Placed.{ArePlaced, placed}
@@ -26,7 +26,7 @@ use Rattle.ipf_frame.specs.Stripping.{may_strip, stripped_slot}
 use Rattle.ipf_frame.proofs.StrippedUnits.{stripped_few}
 use Rattle.ipf_strip.specs.declared.fault.StripFault.{StripFault}
 use Rattle.ipf_strip.specs.declared.fault.StripFault.TheVariants.{BadTarget, NotImmediate, NotInserted}
-use Rattle.ipf_strip.specs.Rules.{frames_rule, list_rule, immediate, fault_if, target_rule, target_at, targets_rule, strip_rule, strip_fault}
+use Rattle.ipf_strip.specs.Rules.{frames_rule, list_rule, immediate, fault_if, target_rule, target_at, targets_rule, strip_fault}
 use Rattle.ipf_strip.specs.Steps.{AreShort, MayLose}
 use Rattle.ipf_strip.specs.Stripping.{slot_of, slot_without}
 use Rattle.ipf_strip.proofs.Judged.{frame_passed}

@@ -1,13 +1,12 @@
 -- What is left of a stream: a well formed one, with its units, that differs in the slots of the targets alone.
-use Rattle.std.proofs.Common.{◌≡◌, ℕ, ◌<◌, Bool, true, false, List, Option, Some, None, refl, sym, ap, subst, ◌∙◌}
+use Rattle.std.proofs.Common.{◌≡◌, ℕ, ◌<◌, List, Option, Some, None, refl, sym, subst}
 use Rattle.std.specs.Prelude.{slice_get}
 use Rattle.std.specs.List.{AllByRecursion}
 use Rattle.usac_cfg.specs.declared.usac_config.UsacConfig.{UsacConfig}
 use Rattle.usac_frame.specs.declared.frame.Frame.{Frame}
-use Rattle.usac_frame.specs.AccessUnit.{IsFrame, frame_of, unit_in}
+use Rattle.usac_frame.specs.AccessUnit.{frame_of}
 use Rattle.usac_frame.specs.FrameFound.{frame_of_is}
-use Rattle.latm.specs.declared.stream.Stream.{Stream}
-use Rattle.latm.specs.Stream.{IsWellFormed, frames_of, config_in, au_in}
+use Rattle.latm.specs.Stream.{frames_of, config_in, au_in}
 use Rattle.stream_edit.proofs.EditedAll.{is_edited, keeps_frames}
 use Rattle.stream_edit.proofs.EditedStream.{stays_well_formed}
 use Rattle.ipf_frame.specs.declared.stripping.Tail.{Tail}
@@ -15,7 +14,6 @@ use Rattle.ipf_frame.specs.Stripping.{stripped_where, stripped_slot, IsStripped}
 use Rattle.ipf_frame.proofs.StrippedUnits.{stripped_is_made, stripped_units_stay, stripped_small}
 use Rattle.ipf_strip.specs.Laws.{OnlyTargetsChange, StaysWellFormed, UnitsStay}
 use Rattle.ipf_strip.specs.Relation.{BecomesBare}
-use Rattle.ipf_strip.specs.Rules.{strip_fault}
 use Rattle.ipf_strip.specs.Steps.{MayLose}
 use Rattle.ipf_strip.specs.Stripping.{slot_of, slot_without}
 use Rattle.ipf_strip.proofs.Passed.{immediate_there, slot_is, passed_all}
@@ -60,7 +58,7 @@ only_targets s tail targets w e =
     let fs = frames_of s in
     let p = passed_all s tail targets w e in
     is_edited (λ t au slot. BecomesBare tail (slice_get fs t) au slot) (slot_without tail fs) targets s w (λ t f at is.
-        subst (λ (o : Option Pair). BecomesBare tail o (au_in f) (slot_without tail fs t (au_in f))) (sym at) (lost tail fs t (config_in f) (au_in f) (p.may t f at is)))
+    subst (λ (o : Option Pair). BecomesBare tail o (au_in f) (slot_without tail fs t (au_in f))) (sym at) (lost tail fs t (config_in f) (au_in f) (p.may t f at is)))
 
 pub well_formed : StaysWellFormed
 well_formed s tail targets w e =
@@ -72,4 +70,4 @@ units_stay s tail targets w e =
     let fs = frames_of s in
     let p = passed_all s tail targets w e in
     keeps_frames (slot_without tail fs) targets s w (λ t f at is.
-        let kept = stripped_units_stay tail (config_in f) (au_in f) (slot_without tail fs t (au_in f)) (lost tail fs t (config_in f) (au_in f) (p.may t f at is)) in kept.0)
+    let kept = stripped_units_stay tail (config_in f) (au_in f) (slot_without tail fs t (au_in f)) (lost tail fs t (config_in f) (au_in f) (p.may t f at is)) in kept.0)

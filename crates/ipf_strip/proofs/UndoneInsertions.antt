@@ -1,5 +1,5 @@
 -- What an insertion made of a stream is that stream again without the prerolls of the same targets.
-use Rattle.std.proofs.Common.{◌≡◌, ℕ, zero, suc, ◌+◌, ◌<◌, Bool, true, false, List, [], ◌∷◌, length, map, Option, Some, None, refl, sym, ap, subst, ◌∙◌, arith}
+use Rattle.std.proofs.Common.{◌≡◌, ℕ, zero, suc, ◌+◌, ◌<◌, Bool, true, false, List, [], ◌∷◌, length, Option, Some, None, refl, sym, ap, subst, ◌∙◌, arith}
 use Rattle.std.specs.Prelude.{◌||◌, ◌==◌, slice_get, if◌then◌else◌}
 use Rattle.std.specs.List.{AllByRecursion}
 use Rattle.std.specs.Option.{option_map, option_or}
@@ -28,8 +28,8 @@ use Rattle.ipf_insert.proofs.Kept.{one_kept}
 use Rattle.ipf_insert.proofs.Holding.{Holds, passed_all}
 use Rattle.ipf_strip.specs.declared.fault.StripFault.{StripFault}
 use Rattle.ipf_strip.specs.declared.fault.StripFault.TheVariants.{BadTarget}
-use Rattle.ipf_strip.specs.Laws.{IsUndone, UndoesInsertions}
-use Rattle.ipf_strip.specs.Rules.{frame_rule, frames_rule, list_rule, immediate, target_at, targets_rule, strip_rule, strip_fault}
+use Rattle.ipf_strip.specs.Laws.{UndoesInsertions}
+use Rattle.ipf_strip.specs.Rules.{frame_rule, frames_rule, list_rule, target_at, targets_rule, strip_fault}
 use Rattle.ipf_strip.specs.Stripping.{slot_of, slot_without, stripped}
 use Rattle.ipf_strip.proofs.Judged.{frame_passes, immediate_is, judged_by}
 
@@ -97,7 +97,7 @@ module _ (s : Stream) (i : Settled) (targets : List ℕ) (h : Holds s i targets)
       subst (λ (c : UsacConfig). ImmediateFrame c (target_slot i t (au_in f)) × (may_strip Undo c (target_slot i t (au_in f)) ≡ true) × (stripped_slot Undo c (target_slot i t (au_in f)) ≡ au_in f))
       (config_there i.config (frames_of s) t f h.same at)
       (targets_are_stripped i.config i.fade (units_before i.count t i.aus) (au_in f) (target_slot i t (au_in f)) h.listed.declared (target_of s i targets h t f at is)
-          (small_at (frames_of s) t f (small_frames None s.elements w.elements) at))
+      (small_at (frames_of s) t f (small_frames None s.elements w.elements) at))
 
   -- ---- no rule refuses
 

@@ -46,12 +46,7 @@ pub fn check_list(frames: u64, targets: &[u64]) -> Result<(), StripFault>
 }
 
 /// Refuses a target that has no preroll, or whose end cannot become what the tail says.
-fn check_target(
-    alloc: Global,
-    tail: Tail,
-    target: u64,
-    at: &FrameRef<'_>,
-) -> Result<(), StripFault>
+fn check_target(alloc: Global, tail: Tail, target: u64, at: &FrameRef<'_>) -> Result<(), StripFault>
     requires short { length at.now.au.now ≤ 8191 }
     requires frame { frame_rule target (pair_of at.now) ≡ None }
     ensures { Passes result (target_rule tail target (pair_of at.now)) }

@@ -1,4 +1,4 @@
-use Rattle.std.proofs.Common.{None, sym}
+use Rattle.std.proofs.Common.{None}
 use Rattle.latm.specs.Stream.{frames_of}
 use Rattle.stream_edit.proofs.Elements.{small_frames}
 use Rattle.ipf_strip.proofs.Passed.{short_frames}

@@ -1,4 +1,4 @@
-use Rattle.std.proofs.Common.{◌≡◌, ◌∷◌, Some, length, get_or, ◌∙◌}
+use Rattle.std.proofs.Common.{◌≡◌, Some, length, get_or, ◌∙◌}
 use Rattle.std.proofs.lemmas.Result.{err_from_is_err_and}
 use Rattle.stream_edit.specs.Frames.{pair_of, pairs_of}
 use Rattle.ipf_strip.specs.Rules.{target_rule, targets_rule}
@@ -29,7 +29,7 @@ returns-in_err-check_target c =
     let lt = below_at (length fs) targets k c.requires.below c.loop-target-test.true in
     let p = err_from_is_err_and c.from_residual.result c.from_residual.ensures.1 in
     rw (p.1, p.2) (on_rule e (target_rule c.args.tail t (pair_of f) ≡ Some e) (targets_rule c.args.tail (pairs_of fs) targets ≡ Some e)
-        (λ q. c.loop-target.invariant ∙ target_refused c.args.tail (pairs_of fs) targets k (pair_of f) e c.loop-target-test.true (pair_of_target fs t f lt c.index-frames-target.is) q) c.in_err-check_target.ensures)
+    (λ q. c.loop-target.invariant ∙ target_refused c.args.tail (pairs_of fs) targets k (pair_of f) e c.loop-target-test.true (pair_of_target fs t f lt c.index-frames-target.is) q) c.in_err-check_target.ensures)
 
 pub loop-target-preserved : goal.loop-target-preserved
 loop-target-preserved c =

@@ -1,4 +1,3 @@
-use Rattle.std.proofs.Common.{sym}
 use Rattle.ipf_strip.proofs.Judged.{refused_frame}
 use Rattle.ipf_strip.proofs.rules.head_of.Goals as goal
 
