@@ -16,6 +16,10 @@ IsRising targets = (i j : ℕ) → i ≤ j → j < length targets → get_or tar
 abbrev pub AreBelow : ℕ → List ℕ → Type 0
 AreBelow n targets = AllByRecursion (λ t. t < n) targets
 
+-- access units of so many bytes at most as an element can have
+abbrev pub AreAus : List (List ℕ) → Type 0
+AreAus aus = AllByRecursion (λ au. (length au ≤ 8191) × AllByRecursion (λ b. b < 256) au) aus
+
 -- Each target is a frame that can be changed.
 abbrev pub TargetsMay : (ℕ → UsacConfig → List ℕ → Type 0) → List ℕ → List (UsacConfig × List ℕ) → Type 0
 TargetsMay May targets frames = (t : ℕ) (f : UsacConfig × List ℕ) → slice_get frames t ≡ Some f → is_target targets t ≡ true → May t (config_in f) (au_in f)

@@ -26,7 +26,7 @@ pub enum Given<'a> {
 
 /// The elements of a changed stream, one after another. Contracts see those that are still to be given.
 #[derive(Drop)]
-pub struct Editor<'a, C> {
+pub struct Editor<'a, C: Change> {
     change: C,
     targets: &'a [u64],
     // the configuration in force before the elements that were not given yet, and the number of their first frame
@@ -68,7 +68,7 @@ impl<'a, C: Change + Drop> Editor<'a, C> {
         requires rising { IsRising targets.now }
         requires may { TargetsMay (C.May change) targets.now (frames_of stream.now) }
         requires writable { AllByRecursion IsWritable (elements_in (C.new change) targets.now 0 stream.now.elements) }
-        ensures { result ≡ (edited (C.new change.entry) targets.now stream.now).elements }
+        ensures { result ≡ (edited (C.new change) targets.now stream.now).elements }
     {
         Editor {
             change,
@@ -92,7 +92,14 @@ impl<'a, C: Change + Drop> Editor<'a, C> {
         let count = element.slots.len();
         let given = if has_target(self.targets, self.first, count) {
             let config = &in_force.asc.usac;
-            let new = changed(alloc, &self.change, self.targets, self.first, config, element)?;
+            let new = changed(
+                alloc,
+                &self.change,
+                self.targets,
+                self.first,
+                config,
+                element,
+            )?;
             Given::Changed(new)
         } else {
             Given::Kept(element)
