@@ -8,9 +8,11 @@ mod elements;
 mod insert;
 mod insert_refusal;
 pub mod laws;
+mod strip;
 mod targets;
 #[cfg(test)]
 mod tests;
 
 pub use insert::Insert;
+pub use strip::{Strip, StripTargets};
 pub use targets::Targets;

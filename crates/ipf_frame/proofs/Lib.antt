@@ -7,3 +7,4 @@ pub mod Undone
 pub mod CleanBytes
 pub mod Payloads
 pub mod Targets
+pub mod Spares

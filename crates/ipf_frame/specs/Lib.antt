@@ -3,3 +3,5 @@ pub mod Clean
 pub mod Payload
 pub mod Slot
 pub mod Laws
+pub mod Stripping
+pub mod StripLaws

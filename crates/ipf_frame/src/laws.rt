@@ -1,4 +1,4 @@
-//! What an insertion keeps, of one target.
+//! What an insertion keeps, of one target, and what taking a preroll out keeps.
 //!
 //! The functions run no code; their contracts are the theorems.
 ghost use Rattle.ipf_frame.specs.Laws.{KeepsUnit, CleanUnitsStay, TargetsCarry, Undoes, CleanIsMade, TargetsAreMade};
@@ -32,3 +32,4 @@ pub fn clean_is_made()
 pub fn targets_are_made()
     ensures { TargetsAreMade }
 {}
+

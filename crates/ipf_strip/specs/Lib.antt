@@ -1,0 +1,5 @@
+pub mod Faults
+pub mod Rules
+pub mod Stripping
+pub mod Relation
+pub mod Steps
