@@ -39,15 +39,16 @@ def targets_of(word, text):
 
 
 def check_undone(name, words, folder):
-    """Says where an insertion is not undone by `strip`, if it can be had; and whether it can."""
+    """Says where an insertion is not undone by `strip`, if it can be had; and whether it can. What `insert` writes is that of the other
+    reader, by insert_checks.py."""
     with open(os.path.join(DEMO, name), "rb") as file:
         text = file.read()
-    got = program(["insert", name, *words], DEMO)
-    if got[2]:
+    inserted, _, status = expect.answer("insert", os.path.join(DEMO, name), *words)
+    if status:
         return None, False
     path = os.path.join(folder, "inserted.loas")
     with open(path, "wb") as file:
-        file.write(got[0])
+        file.write(inserted)
     found = None
     for targets in targets_of(words[2], text):
         found = found or differs(program(["strip", path, "undo", targets], folder), (text, b"", 0))
