@@ -1,9 +1,10 @@
 #!/usr/bin/env python3
 """Says what `xheaac show FILE`, `xheaac check FILE`, `xheaac play FILE`, `xheaac start FILE FRAME`, `xheaac plan FILE POS [FILE POS]...`,
-`splice` and `switch` with the same words, and `xheaac insert FILE K FADE TARGETS` are to do, by a reader of its own: expect.py with the same words writes the same bytes and the
-same note, and ends with the same status. It shares no code with the program. It reads a stream in any mux of one program and one layer,
-says at which bit or byte it is at fault, judges its prerolls, plays it by the rules of a player and of the example core, judges whether
-pieces can be joined, joins them, plays them as they stand, and inserts prerolls."""
+`splice` and `switch` with the same words, `xheaac insert FILE K FADE TARGETS` and `xheaac strip FILE TAIL TARGETS` are to do, by a reader of its
+own: expect.py with the same words writes the same bytes and the same note, and ends with the same status. It shares no code with the
+program. It reads a stream in any mux of one program and one layer, says at which bit or byte it is at fault, judges its prerolls, plays
+it by the rules of a player and of the example core, judges whether pieces can be joined, joins them, plays them as they stand, inserts
+prerolls, and takes them out again."""
 import struct
 import sys
 
@@ -12,6 +13,7 @@ from layouts import Fault, PreRoll
 from plans import Piece, on_pieces
 from splices import Handed
 from streams import WARM_UP, Broken, Stop, carried, frames_of, read_unit, refused, text_of
+from strips import stripped
 
 # how many times a fade has
 FADED = 128
@@ -248,6 +250,8 @@ def answer(word, *words):
     """What the command with these words writes, notes and ends with."""
     if word == "insert":
         return inserted(read(words[0]), *words[1:])
+    if word == "strip":
+        return stripped(read(words[0]), *words[1:])
     if word in ON_PIECES:
         files = [lambda name=name: read(name) for name in words[::2]]
         positions = [int(position) for position in words[1::2]]

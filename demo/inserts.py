@@ -1,14 +1,10 @@
 """Inserts immediate play-out frames into a stream: `insert` of expect.py."""
-from layouts import Unit, packed
-from splices import MOST_ELEMENT, slot_bits
-from streams import Broken, Frame, Stop, elements_of, read_unit, refused
+from layouts import Unit
+from splices import MOST_ELEMENT
+from streams import Broken, Stop, read_unit, refused
+from wholes import Whole, element_octets, filled, told, with_part
 
 MOST_CONFIGURATION, MOST_UNITS, MOST_PAYLOAD = 285, 18, 65_788  # bytes, access units, bytes
-
-
-def filled(bits):
-    """Bits, with zeros behind them up to a whole byte."""
-    return bits + "0" * (-len(bits) % 8)
 
 
 def escaped(value, *widths):
@@ -24,15 +20,10 @@ def escaped(value, *widths):
     return bits + f"{value:0{last}b}"
 
 
-def with_part(unit, bits, part):
-    """The bits of a frame with these bits for its preroll element."""
-    return filled(unit.flag + part + bits[unit.core :])
-
-
 def clean(usac, bits):
     """An access unit as it is carried: without its preroll, where that has bytes."""
     unit = Unit(usac, bits)
-    return with_part(unit, bits, "0") if unit.preroll else bits
+    return filled(with_part(unit, bits, "0")) if unit.preroll else bits
 
 
 def new_part(usac, payload):
@@ -52,11 +43,6 @@ def new_preroll(usac, fade, units):
     return filled(bits)
 
 
-def element_octets(element, slots):
-    """The bytes of an element with these access units."""
-    return packed(element.front + "".join(map(slot_bits, slots)) + element.behind)
-
-
 def numbers(targets, frames):
     """The targets that a word names in a stream of so many frames."""
     if targets.startswith("every:"):
@@ -65,16 +51,13 @@ def numbers(targets, frames):
     return [int(target) for target in targets.split(",")]
 
 
-class Insertion:
-    """What an insertion does to the elements of a stream. They are changed target by target."""
+class Insertion(Whole):
+    """What an insertion does to the elements of a stream."""
 
     def __init__(self, octets, count, fade, targets):
-        self.elements, self.frames, self.count, self.fade = [], [], int(count), fade
-        for first, element in elements_of(octets):
-            self.elements.append(element)
-            self.frames += [(element, place, Frame(first + place, None, element.mux, False, bits)) for place, bits in enumerate(element.slots)]
+        super().__init__(octets)
+        self.count, self.fade = int(count), fade
         self.targets = numbers(targets, len(self.frames))
-        self.slots = {id(element): list(element.slots) for element in self.elements}
 
     def judge_stream(self):
         """The rules over all frames, and those of the configuration."""
@@ -88,15 +71,6 @@ class Insertion:
         if len(filled(usac.spelling)) > 8 * MOST_CONFIGURATION:
             raise Stop("refused: configuration too long\n", 1)
         return usac
-
-    def judge_words(self):
-        if not 0 < self.count <= MOST_UNITS:
-            raise Stop("refused: bad count\n", 1)
-        before = -1
-        for place, target in enumerate(self.targets):
-            if not before < target < len(self.frames):
-                raise Stop(f"refused: bad target {place}\n", 1)
-            before = target
 
     def change(self, usac, target):
         """Makes an immediate frame of a target."""
@@ -115,26 +89,24 @@ class Insertion:
         if len(payload) > 8 * MOST_PAYLOAD:
             raise Broken("payload too long")
         slots = self.slots[id(element)]
-        slots[place] = with_part(unit, frame.unit, new_part(usac, payload))
+        slots[place] = filled(with_part(unit, frame.unit, new_part(usac, payload)))
         if len(element_octets(element, slots)) > MOST_ELEMENT:
             raise Broken("too long")
 
     def run(self):
         """The bytes of the stream that it makes."""
         usac = self.judge_stream()
-        self.judge_words()
+        if not 0 < self.count <= MOST_UNITS:
+            raise Stop("refused: bad count\n", 1)
+        self.judge_targets(self.targets)
         for target in self.targets:
             try:
                 self.change(usac, target)
             except Broken as broken:
                 raise refused(f"frame {target}", broken) from broken
-        bodies = [element_octets(element, self.slots[id(element)]) for element in self.elements]
-        return b"".join((0x56E000 + len(body)).to_bytes(3, "big") + body for body in bodies)
+        return self.written()
 
 
 def inserted(octets, count, fade, targets):
     """What `insert` with these words behind the file writes, notes and ends with."""
-    try:
-        return Insertion(octets, count, fade, targets).run(), b"", 0
-    except Stop as stop:
-        return b"", stop.note.encode(), stop.status
+    return told(lambda: Insertion(octets, count, fade, targets).run())

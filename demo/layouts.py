@@ -341,6 +341,7 @@ class Unit:
                 self.core = text.at
                 self.preroll = part.payload or ""
                 self.is_immediate = self.preroll != "" and part.is_whole
+        self.rest = text.left()  # the number of bits behind these elements
         self.bits = self.flag + text.bits[self.core :]  # what the core sees
 
 

@@ -10,8 +10,9 @@ use Rattle.latm.specs.Stream.{frames_of}
 use Rattle.plans.specs.Coded.{Coded, coded_shown}
 use Rattle.plans.specs.StreamUnits.{units_of, head_of}
 use Rattle.core_iface.specs.Decoding.{Definitions, out, after}
-use Rattle.ipf_insert.specs.Inserting.{is_target, inserted}
-use Rattle.ipf_insert.specs.Laws.{unit_of_frame}
+use Rattle.stream_edit.specs.Targets.{is_target}
+use Rattle.ipf_insert.specs.Inserting.{inserted}
+use Rattle.stream_edit.specs.Laws.{unit_of_frame}
 use Rattle.inserted_plans.specs.Insertion.{Insertion, IsAllowed, coded, old_frames, new_frames}
 use Rattle.inserted_plans.specs.Laws.{DecodeAlike, DecodesAlike}
 use Rattle.inserted_plans.proofs.Inserted.{keeps, as_many, stays, target_late}

@@ -9,7 +9,7 @@ use Rattle.plans.specs.Coded.{Coded, coded_shown}
 use Rattle.core_iface.specs.Decoding.{Definitions}
 use Rattle.switch_player.specs.Cuts.{joined, blend_first}
 use Rattle.switch_player.proofs.PartsShown.{carried_shown}
-use Rattle.ipf_insert.specs.Inserting.{is_target}
+use Rattle.stream_edit.specs.Targets.{is_target}
 use Rattle.inserted_plans.specs.Insertion.{Insertion, IsAllowed, old_frames, new_frames}
 use Rattle.inserted_plans.specs.Changes.{IsInto, stream_behind, is_fading, faded}
 use Rattle.inserted_plans.specs.Laws.{DecodeAlike}

@@ -17,14 +17,15 @@ use Rattle.preroll.proofs.Judging.{carried_in_frame}
 use Rattle.latm.specs.Stream.{frames_of, config_in, au_in}
 use Rattle.plans.specs.Coded.{Coded, coded_shown}
 use Rattle.plans.specs.Coded as plans
-use Rattle.ipf_frame.specs.Slot.{IsOpen, new_slot}
-use Rattle.ipf_insert.specs.Inserting.{Settled, units_before, is_target, stream_in, inserted}
-use Rattle.ipf_insert.specs.Laws.{unit_of_frame, KeepsFrames}
+use Rattle.ipf_frame.specs.Slot.{IsOpen}
+use Rattle.stream_edit.specs.Targets.{is_target}
+use Rattle.ipf_insert.specs.Inserting.{Settled, target_slot, stream_in, inserted}
+use Rattle.stream_edit.specs.Laws.{unit_of_frame, KeepsFrames}
 use Rattle.ipf_insert.specs.Laws as inserting
 use Rattle.ipf_insert.specs.Rules.{au_at}
 use Rattle.ipf_insert.proofs.CarriedFrames.{targets_carry}
-use Rattle.ipf_insert.proofs.ChangedFrames.{frames_in, frames_are, in_length}
-use Rattle.ipf_insert.proofs.Here.{frame_at}
+use Rattle.stream_edit.proofs.EditedFrames.{frames_in, frames_are, in_length}
+use Rattle.ipf_insert.proofs.Here.{frame_at, au_there, config_there}
 use Rattle.ipf_insert.proofs.Holding.{Passed, passed_all}
 use Rattle.ipf_insert.proofs.Kept.{one_kept, late, open_frame}
 use Rattle.ipf_insert.proofs.KeptFrames.{units_stay}
@@ -36,20 +37,12 @@ Pair = UsacConfig × List ℕ
 
 -- ---- of lists of frames
 
-kept_from : (j : Settled) (targets : List ℕ) (first n : ℕ) (fs : List Pair) → is_target targets (first + n) ≡ false → slice_get (frames_in j targets first fs) n ≡ slice_get fs n
-kept_from j targets first n [] out = refl
-kept_from j targets first zero (f ∷ fs) out =
+kept_from : (make : ℕ → List ℕ → List ℕ) (targets : List ℕ) (first n : ℕ) (fs : List Pair) → is_target targets (first + n) ≡ false → slice_get (frames_in make targets first fs) n ≡ slice_get fs n
+kept_from make targets first n [] out = refl
+kept_from make targets first zero (f ∷ fs) out =
     let here : is_target targets first ≡ false = ap (is_target targets) (let q : first ≡ first + 0 = omega arith in q) ∙ out in
-    ap (λ (b : Bool). let x : Pair = (config_in f, if b then new_slot j.config j.fade (units_before j.count first j.aus) (au_in f) else au_in f) in Some x) here
-kept_from j targets first (suc n) (f ∷ fs) out = kept_from j targets (suc first) n fs (ap (is_target targets) (let q : suc first + n ≡ first + suc n = omega arith in q) ∙ out)
-
-au_there : (fs : List Pair) (t : ℕ) (f : Pair) → slice_get fs t ≡ Some f → au_in f ≡ au_at (map au_in fs) t
-au_there fs t f e = sym (ap (λ (o : Option (List ℕ)). option_map_or (λ au. au) o []) (get_mapped au_in fs t ∙ ap (option_map au_in) e))
-
-config_there : (c : UsacConfig) (fs : List Pair) (t : ℕ) (f : Pair) → AllByRecursion (λ f. c ≡ config_in f) fs → slice_get fs t ≡ Some f → c ≡ config_in f
-config_there c [] t f same e = absurd (let never : None ≡ Some f = e in cc)
-config_there c (x ∷ fs) zero f same e = same.0 ∙ ap config_in (let is : x ≡ f = (let s : Some x ≡ Some f = e in cc) in is)
-config_there c (x ∷ fs) (suc t) f same e = config_there c fs t f same.1 e
+    ap (λ (b : Bool). let x : Pair = (config_in f, if b then make first (au_in f) else au_in f) in Some x) here
+kept_from make targets first (suc n) (f ∷ fs) out = kept_from make targets (suc first) n fs (ap (is_target targets) (let q : suc first + n ≡ first + suc n = omega arith in q) ∙ out)
 
 uncoded : (fs : List Pair) (t : ℕ) (f : Coded) → slice_get (map coded fs) t ≡ Some f → (g : Pair) × (slice_get fs t ≡ Some g) × (f ≡ coded g)
 uncoded [] t f e = absurd (let never : None ≡ Some f = e in cc)
@@ -81,22 +74,22 @@ module _ (i : Insertion) (w : IsAllowed i) where
   abbrev new : List Pair
   new = frames_of (inserted i.stream i.count i.fade i.targets)
 
-  frames_new : new ≡ frames_in passed.shared i.targets 0 old
+  frames_new : new ≡ frames_in (target_slot passed.shared) i.targets 0 old
   frames_new =
       ap (λ (o : Option Settled). frames_of (stream_in o i.targets i.stream)) passed.found
-      ∙ frames_are passed.shared i.targets 0 None i.stream.elements w.stream.elements
+      ∙ frames_are (target_slot passed.shared) i.targets 0 None i.stream.elements w.stream.elements
 
   pub keeps : KeepsFrames i.stream (inserted i.stream i.count i.fade i.targets)
   keeps = units_stay i.stream i.count i.fade i.targets w.stream w.rules
 
   pub as_many : length (new_frames i) ≡ length (old_frames i)
-  as_many = length-map new coded ∙ ap (λ (fs : List Pair). length fs) frames_new ∙ in_length passed.shared i.targets 0 old ∙ sym (length-map old coded)
+  as_many = length-map new coded ∙ ap (λ (fs : List Pair). length fs) frames_new ∙ in_length (target_slot passed.shared) i.targets 0 old ∙ sym (length-map old coded)
 
   -- a frame that is no target stays
   pub stays : (t : ℕ) → is_target i.targets t ≡ false → slice_get (new_frames i) t ≡ slice_get (old_frames i) t
   stays t out =
       get_mapped coded new t
-      ∙ ap (λ (o : Option Pair). option_map coded o) (ap (λ (fs : List Pair). slice_get fs t) frames_new ∙ kept_from passed.shared i.targets 0 t old (ap (is_target i.targets) (let q : 0 + t ≡ t = omega arith in q) ∙ out))
+      ∙ ap (λ (o : Option Pair). option_map coded o) (ap (λ (fs : List Pair). slice_get fs t) frames_new ∙ kept_from (target_slot passed.shared) i.targets 0 t old (ap (is_target i.targets) (let q : 0 + t ≡ t = omega arith in q) ∙ out))
       ∙ sym (get_mapped coded old t)
 
   -- a target has as many frames before it as are carried, and one at least

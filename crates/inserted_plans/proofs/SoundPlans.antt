@@ -16,7 +16,7 @@ use Rattle.plans.specs.Parts.{IsPart}
 use Rattle.plans.specs.SoundPlan.{BeginsWarm, AreJoined, IsSoundPlan}
 use Rattle.core_iface.specs.Decoding.{Definitions}
 use Rattle.switch_player.proofs.PartsShown.{carried_shown}
-use Rattle.ipf_insert.specs.Inserting.{is_target}
+use Rattle.stream_edit.specs.Targets.{is_target}
 use Rattle.inserted_plans.specs.Insertion.{Insertion, IsAllowed, old_frames, new_frames}
 use Rattle.inserted_plans.specs.Changes.{Change, IsChange, IsInto, BeginsNoFade, stream_behind, part_behind, old_plan, new_plan, is_fading}
 use Rattle.inserted_plans.specs.Laws.{SoundPlansStay}

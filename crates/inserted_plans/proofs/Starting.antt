@@ -13,7 +13,7 @@ use Rattle.plans.specs.StreamUnits.{units_of, head_of, IsFaithful}
 use Rattle.plans.specs.Parts.{IsPart}
 use Rattle.plans.specs.SoundPlan.{BeginsWarm}
 use Rattle.ipf_insert.specs.Inserting.{inserted}
-use Rattle.ipf_insert.specs.Laws.{unit_of_frame}
+use Rattle.stream_edit.specs.Laws.{unit_of_frame}
 use Rattle.inserted_plans.specs.Insertion.{Insertion, IsAllowed, coded, old_frames, new_frames}
 use Rattle.inserted_plans.specs.Laws.{IsWarmTarget, new_part, TargetsBeginWarm}
 use Rattle.inserted_plans.proofs.Lists.{there, some_same}

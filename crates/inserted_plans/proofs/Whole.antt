@@ -4,7 +4,7 @@ use Rattle.std.specs.Prelude.{slice_get, All}
 use Rattle.usac_cfg.specs.UsacConfig.{IsWellFormed as IsConfig}
 use Rattle.plans.specs.Coded.{Coded, IsCoded}
 use Rattle.plans.specs.WholeStream.{IsWholeStream, OpensStream}
-use Rattle.ipf_insert.specs.Inserting.{is_target}
+use Rattle.stream_edit.specs.Targets.{is_target}
 use Rattle.inserted_plans.specs.Insertion.{Insertion, IsAllowed, old_frames, new_frames}
 use Rattle.inserted_plans.specs.Laws.{StaysWhole}
 use Rattle.inserted_plans.proofs.Lists.{all_by_number, one_of_all, some_same}

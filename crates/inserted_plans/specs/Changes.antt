@@ -7,7 +7,7 @@ use Rattle.plans.specs.Coded.{Coded, coded_shown}
 use Rattle.plans.specs.Parts.{Part}
 use Rattle.switch_player.specs.Cuts.{blend_first}
 use Rattle.switch_player.specs.Streams.{left}
-use Rattle.ipf_insert.specs.Inserting.{is_target}
+use Rattle.stream_edit.specs.Targets.{is_target}
 use Rattle.inserted_plans.specs.Insertion.{Insertion, IsAllowed, old_frames, new_frames}
 
 -- a part of a plan, and what is inserted into its stream, if anything is

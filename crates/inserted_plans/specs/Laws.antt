@@ -12,7 +12,7 @@ use Rattle.plans.specs.SoundPlan.{BeginsWarm, AreJoined, IsSoundPlan}
 use Rattle.core_iface.specs.Decoding.{Definitions}
 use Rattle.switch_player.specs.Streams.{alone, left}
 use Rattle.switch_player.specs.Cuts.{cut_plan}
-use Rattle.ipf_insert.specs.Inserting.{is_target}
+use Rattle.stream_edit.specs.Targets.{is_target}
 use Rattle.inserted_plans.specs.Insertion.{Insertion, IsAllowed, old_frames, new_frames}
 use Rattle.inserted_plans.specs.Changes.{Change, IsChange, BeginsNoFade, old_plan, new_plan, with_fades}
 

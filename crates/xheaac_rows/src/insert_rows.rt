@@ -17,7 +17,7 @@ type Inserted = (
 );
 
 // `IMMEDIATE`, where its fifth frame asks for a fade.
-const FADING: &[&str] = &[OWN, "56E01187E0C81908E600C72000209000181C0000", BEHIND];
+pub const FADING: &[&str] = &[OWN, "56E01187E0C81908E600C72000209000181C0000", BEHIND];
 
 // A stream whose frame 5 gets a preroll: its frame 4 is independent.
 const EARLY: &str =
@@ -25,34 +25,36 @@ const EARLY: &str =
 
 const LATE: &str = "56E00380800056E003808000";
 
-const LAST: &[&str] = &[EARLY, "56E00380C200", LATE];
+pub const LAST: &[&str] = &[EARLY, "56E00380C200", LATE];
 
-const LAST_FADING: &[&str] = &[EARLY, "56E01187E0C81908E600C7200030900018810000", LATE];
+pub const LAST_FADING: &[&str] = &[EARLY, "56E01187E0C81908E600C7200030900018810000", LATE];
 
-const THREE: &[&str] = &[DOUBLED, "56E00380C100"];
+pub const THREE: &[&str] = &[DOUBLED, "56E00380C100"];
 
 // Two elements of two slots each, A0, B0, A0 and B0.
-const TWO_SLOTS: &[&str] = &[
+pub const TWO_SLOTS: &[&str] = &[
     "56E0122080F94623211CC018E400023FC01A001B00",
     "56E00580D000D800",
 ];
 
-const TWO_TARGETS: &[&str] = &[
+pub const TWO_TARGETS: &[&str] = &[
     "56E0202080F94623211CC018E400023FC01A00FC1903211CC018E40002120003418000",
     "56E01380D007E0C81908E600C720001090001A0C0000",
 ];
 
 // The access units A0 and B0 in a mux of version 1 with 5 bits of other data: 10101, and 01010.
-const VERSION_1: &[&str] = &["56E01758000007FC00027FCA311908E600C7200011FF0140341556E00380D828"];
+pub const VERSION_1: &[&str] = &[
+    "56E01758000007FC00027FCA311908E600C7200011FF0140341556E00380D828",
+];
 
-const VERSION_1_TARGET: &[&str] = &[
+pub const VERSION_1_TARGET: &[&str] = &[
     "56E01758000007FC00027FCA311908E600C7200011FF0140341556E01187E0C81908E600C720001090001A0C0028",
 ];
 
 // The access units 81 and B0, where usacExtElementPayloadFrag is 1 at the preroll element.
-const SPREAD: &[&str] = &["56E0102000F94623211CC118E400043FC0190056E00380D800"];
+pub const SPREAD: &[&str] = &["56E0102000F94623211CC118E400043FC0190056E00380D800"];
 
-const SPREAD_TARGET: &[&str] = &[
+pub const SPREAD_TARGET: &[&str] = &[
     "56E0102000F94623211CC118E400043FC0190056E01187E0CE0642398231C80008040006430000",
 ];
 
@@ -164,7 +166,7 @@ fn inserting<'a>(words: &'a [&'a str], file: &'a [&'a str], note: &'a str) -> Ro
 
 // The first access unit is A0 and so many zeros. The bytes of the file before them and behind them, and before and behind them
 // in the target, whose preroll has 253, 254 and 255 bytes.
-const LENGTHS: &[(&'static str, usize, &'static str, &'static str)] = &[
+pub const LENGTHS: &[(&'static str, usize, &'static str, &'static str)] = &[
     (
         "56E1012000F94623211CC018E400023FCF2A",
         242,

@@ -30,6 +30,8 @@ mod starts;
 #[cfg(test)]
 mod streams;
 #[cfg(test)]
+mod strip_rows;
+#[cfg(test)]
 mod switch_rows;
 
 pub use program::play_source;

@@ -9,7 +9,6 @@ use Rattle.std.proofs.lemmas.List.{append_assoc, get_or_default}
 use Rattle.std.proofs.lemmas.List.Splits.{slice_split_none, slice_split_first}
 use Rattle.std.proofs.lemmas.Str.Pattern.{IsSplitOnceResult, split_parts, split_once_first}
 use Rattle.xheaac_tool.specs.Numbers.{number_of}
-use Rattle.editing.specs.declared.targets.Targets.{Targets}
 use Rattle.editing.specs.declared.targets.Targets.TheVariants.{Each, Every}
 use Rattle.xheaac_tool.specs.TargetWords.{number_before, numbers_of, between_commas, step_of, targets_of}
 
@@ -65,18 +64,18 @@ one_is_some word (Some number) are is = sym (ap (λ (ns : Option (List ℕ)). is
 
 -- ---- targets
 
-as_many : (numbers : Option (List ℕ)) → is_some numbers ≡ is_some (option_map Each numbers)
-as_many None = refl
-as_many (Some numbers) = refl
+pub as_many : {A B : Type 0} (of : A → B) (numbers : Option A) → is_some numbers ≡ is_some (option_map of numbers)
+as_many of None = refl
+as_many of (Some numbers) = refl
 
 -- a word that does not begin with `every:` is targets where it is numbers
 pub without_every : (word : List ℕ) → false ≡ starts_with nat_eq word (codes "every:") → is_some (numbers_of (between_commas word)) ≡ is_some (targets_of word)
-without_every word other = as_many (numbers_of (between_commas word)) ∙ ap (λ (b : Bool). is_some (if b then option_map Every (step_of (drop 6 word)) else option_map Each (numbers_of (between_commas word)))) other
+without_every word other = as_many Each (numbers_of (between_commas word)) ∙ ap (λ (b : Bool). is_some (if b then option_map Every (step_of (drop 6 word)) else option_map Each (numbers_of (between_commas word)))) other
 
-pub no_targets : (targets : Option Targets) → is_some targets ≡ false → None ≡ targets
+pub no_targets : {A : Type 0} (targets : Option A) → is_some targets ≡ false → None ≡ targets
 no_targets None none = refl
 no_targets (Some targets) none = cc
 
-pub some_targets : (targets : Option Targets) → is_some targets ≡ true → Some (unwrap_or targets (Each [])) ≡ targets
-some_targets None some = cc
-some_targets (Some targets) some = refl
+pub some_targets : {A : Type 0} (other : A) (targets : Option A) → is_some targets ≡ true → Some (unwrap_or targets other) ≡ targets
+some_targets other None some = cc
+some_targets other (Some targets) some = refl

@@ -12,7 +12,8 @@ use Rattle.joining.specs.Planning.{plans_files}
 use Rattle.joining.specs.Splicing.{splices_files}
 use Rattle.switching.specs.Switching.{switches_files}
 use Rattle.editing.specs.Inserting.{inserting}
-use Rattle.xheaac_tool.specs.Words.{Case, Show, Check, Play, Start, Plan, Splice, Switch, Insert, positions_of}
+use Rattle.editing.specs.Stripping.{stripping}
+use Rattle.xheaac_tool.specs.Words.{Case, Show, Check, Play, Start, Plan, Splice, Switch, Insert, Strip, positions_of}
 
 abbrev pub effect_of : Definitions → Case → Effect
 effect_of d (Show file) = on_file showing
@@ -23,3 +24,4 @@ effect_of d (Plan pieces) = plans_files d (positions_of pieces)
 effect_of d (Splice pieces) = splices_files d (positions_of pieces)
 effect_of d (Switch pieces) = switches_files d (positions_of pieces)
 effect_of d (Insert file count fade targets) = on_whole (inserting count fade targets)
+effect_of d (Strip file tail targets) = on_whole (stripping tail targets)

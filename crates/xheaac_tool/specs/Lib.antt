@@ -4,6 +4,7 @@ pub mod Counting
 pub mod Reading
 pub mod Numbers
 pub mod TargetWords
+pub mod StripWords
 pub mod Words
 pub mod Asked
 pub mod Listed

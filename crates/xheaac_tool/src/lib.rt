@@ -2,13 +2,13 @@
 //! the command line, does what they ask for, and answers the status. Its contract says, from the bytes
 //! of the files alone, what was written, what was noted and which status is answered; and where a device
 //! or the core fails, what was written before. [`do_show`], [`do_check`], [`do_play`], [`do_start`],
-//! [`do_plan`], [`do_splice`], [`do_switch`] and [`do_insert`] are the commands without their note, for a
-//! program that has its own.
+//! [`do_plan`], [`do_splice`], [`do_switch`], [`do_insert`] and [`do_strip`] are the commands without their
+//! note, for a program that has its own.
 //!
 //! What they share is the crate `commands`: its runners go over the frames of a file for any task, or read
 //! it whole. The tasks are `show_task` and `check_task`, in the crate `playing` those of `play` and `start`,
 //! in the crate `joining` those of `plan` and `splice`, and in the crate `switching` that of `switch`. The
-//! crate `editing` has `insert`, which reads its file whole.
+//! crate `editing` has `insert` and `strip`, which read their file whole.
 #![tactic(auto)]
 
 mod check;
@@ -23,6 +23,8 @@ mod show;
 mod show_task;
 mod splice;
 mod start;
+mod strip;
+mod strip_words;
 mod switch;
 mod target_words;
 mod top;
@@ -37,6 +39,7 @@ pub use play::do_play;
 pub use show::do_show;
 pub use splice::do_splice;
 pub use start::do_start;
+pub use strip::do_strip;
 pub use switch::do_switch;
 pub use top::{run, run_line};
 pub use words::WordsFault;

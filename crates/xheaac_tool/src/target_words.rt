@@ -15,7 +15,7 @@ pub struct TargetWords<'a> {
 }
 
 /// Whether a word is numbers joined by single commas.
-fn are_numbers(word: &str) -> bool
+pub fn are_numbers(word: &str) -> bool
     ensures { result ≡ is_some (numbers_of (between_commas word.now)) }
 {
     let mut later = word;
@@ -31,7 +31,7 @@ fn are_numbers(word: &str) -> bool
 /// Reads numbers joined by single commas; `None` where the word is another one.
 ///
 /// Errors: out of memory.
-fn read_numbers(alloc: Global, word: &str) -> Result<Option<Items<u64>>, AllocError>
+pub fn read_numbers(alloc: Global, word: &str) -> Result<Option<Items<u64>>, AllocError>
     ensures { IfOk result (λ numbers. numbers ≡ numbers_of (between_commas word.now)) }
 {
     let mut numbers = Vec::new(alloc);

@@ -16,6 +16,7 @@ use crate::play::do_play;
 use crate::show::do_show;
 use crate::splice::do_splice;
 use crate::start::do_start;
+use crate::strip::do_strip;
 use crate::switch::do_switch;
 use crate::words::{Asked, WordsFault, read_words};
 use commands::{OUT_OF_MEMORY, Outcome, finish, report};
@@ -53,6 +54,7 @@ fn do_asked<H: Shelf, K: Sink, C: Core>(
         Asked::Splice { .. } => do_splice(alloc, words, shelf, out, core),
         Asked::Switch { .. } => do_switch(alloc, words, shelf, out, core),
         Asked::Insert { .. } => do_insert(alloc, words, shelf, out, core),
+        Asked::Strip { .. } => do_strip(alloc, words, shelf, out, core),
     }
 }
 

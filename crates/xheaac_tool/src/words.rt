@@ -2,11 +2,13 @@
 ghost use Rattle.std.specs.Option.{option_map};
 ghost use Rattle.std.specs.Prelude.{◌≡◌};
 ghost use Rattle.xheaac_tool.specs.Asked.{asked};
-ghost use Rattle.xheaac_tool.specs.Words.{case_of, count_of, fade_of, insert_of, only_word, start_of, texts};
+ghost use Rattle.xheaac_tool.specs.Words.{case_of, count_of, fade_of, insert_of, only_word, start_of, strip_of, tail_of, texts};
 
 use crate::numbers::read_number;
 use crate::piece_words::Pairs;
+use crate::strip_words::StripWords;
 use crate::target_words::TargetWords;
+use ipf_strip::Tail;
 use std::alloc::AllocError;
 use thiserror::Error;
 
@@ -50,6 +52,11 @@ pub enum Asked<'a> {
         count: u32,
         fade: bool,
         targets: TargetWords<'a>,
+    },
+    Strip {
+        file: &'a str,
+        tail: Tail,
+        targets: StripWords<'a>,
     },
 }
 
@@ -107,6 +114,29 @@ fn read_insert<'a>(words: &'a [String]) -> Option<Asked<'a>>
     }
 }
 
+fn read_tail(word: &str) -> Option<Tail>
+    ensures { result ≡ tail_of word.now }
+{
+    match word {
+        "undo" => Some(Tail::Undo),
+        "keep" => Some(Tail::Keep),
+        _ => None,
+    }
+}
+
+fn read_strip<'a>(words: &'a [String]) -> Option<Asked<'a>>
+    ensures { option_map asked result ≡ strip_of (texts words.now) }
+{
+    match words {
+        [file, tail, targets] => Some(Asked::Strip {
+            file: file.as_str(),
+            tail: read_tail(tail.as_str())?,
+            targets: StripWords::read(targets.as_str())?,
+        }),
+        _ => None,
+    }
+}
+
 /// Reads the words; `None` where they are no case.
 pub fn read_words<'a>(words: &'a [String]) -> Option<Asked<'a>>
     ensures { option_map asked result ≡ case_of (texts words.now) }
@@ -123,6 +153,7 @@ pub fn read_words<'a>(words: &'a [String]) -> Option<Asked<'a>>
         "splice" => Pairs::read(others).map(|pieces| Asked::Splice { pieces }),
         "switch" => Pairs::read(others).map(|pieces| Asked::Switch { pieces }),
         "insert" => read_insert(others),
+        "strip" => read_strip(others),
         _ => None,
     }
 }

@@ -1,4 +1,5 @@
-use Rattle.std.proofs.Common.{sym, ◌∙◌}
+use Rattle.std.proofs.Common.{[], sym, ◌∙◌}
+use Rattle.editing.specs.declared.targets.Targets.TheVariants.{Each}
 use Rattle.xheaac_tool.specs.TargetWords.{targets_of}
 use Rattle.xheaac_tool.proofs.TargetLemmas.{no_targets, some_targets}
 use Rattle.xheaac_tool.proofs.target_words.TargetWords.read.Goals as goal
@@ -7,4 +8,4 @@ pub returns-then-not-are_targets : goal.returns-then-not-are_targets
 returns-then-not-are_targets c = no_targets (targets_of c.args.word.now) (sym c.are_targets.ensures ∙ c.if-not-are_targets.true)
 
 pub returns : goal.returns
-returns c = some_targets (targets_of c.args.word.now) (sym c.are_targets.ensures ∙ c.if-not-are_targets.false)
+returns c = some_targets (Each []) (targets_of c.args.word.now) (sym c.are_targets.ensures ∙ c.if-not-are_targets.false)
