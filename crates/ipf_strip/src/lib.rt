@@ -11,6 +11,8 @@ pub mod laws;
 mod rules;
 mod streams;
 mod stripping;
+#[cfg(test)]
+mod tests;
 
 pub use fault::StripFault;
 pub use immediate::immediate_frames;

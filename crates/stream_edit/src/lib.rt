@@ -9,6 +9,8 @@ mod editor;
 mod frames;
 pub mod laws;
 mod targets;
+#[cfg(test)]
+mod tests;
 
 pub use change::{Change, changed};
 pub use editor::{Editor, Given};
