@@ -107,7 +107,7 @@ module _ (make back : ℕ → List ℕ → List ℕ) (targets : List ℕ) where
   elements_back t before (e ∷ es) are h =
       let m = in_force_of before e are.0 in
       let own : element_in back targets t (element_in make targets t e) ≡ e =
-        ap (λ (xs : List (List ℕ)). let x : MuxElement = record { config = e.config; slots = xs; other = e.other; tail = e.tail } in x) (slots_back t m.0.asc.usac e.slots (under TakesBack targets t before e m.0 m.1 h.0)) in
+      ap (λ (xs : List (List ℕ)). let x : MuxElement = record { config = e.config; slots = xs; other = e.other; tail = e.tail } in x) (slots_back t m.0.asc.usac e.slots (under TakesBack targets t before e m.0 m.1 h.0)) in
       ap (λ (x : MuxElement). x ∷ elements_in back targets (t + length (slots_in make targets t e.slots)) (elements_in make targets (t + length e.slots) es)) own
       ∙ ap (λ (n : ℕ). e ∷ elements_in back targets (t + n) (elements_in make targets (t + length e.slots) es)) (as_many make targets t e.slots)
       ∙ ap (λ (xs : List MuxElement). e ∷ xs) (elements_back (t + length e.slots) (then_in_force before e.config) es are.1 h.1)

@@ -44,9 +44,13 @@ module _ (make : ℕ → List ℕ → List ℕ) (targets : List ℕ) where
   slots_short : (t : ℕ) (c : UsacConfig) (slots : List (List ℕ)) → MayChange Shorter targets t c slots → length (flat_map slot_of_bytes.spelling (slots_in make targets t slots)) ≤ length (flat_map slot_of_bytes.spelling slots)
   slots_short t c [] h = omega arith
   slots_short t c (au ∷ slots) h =
-      omega (arith, slot_short (slot_in make targets t au) au (one_short t c au h.0), slots_short (suc t) c slots h.1,
-          length-append (slot_of_bytes.spelling (slot_in make targets t au)) (flat_map slot_of_bytes.spelling (slots_in make targets (suc t) slots)),
-          length-append (slot_of_bytes.spelling au) (flat_map slot_of_bytes.spelling slots))
+      omega (
+        arith,
+        slot_short (slot_in make targets t au) au (one_short t c au h.0),
+        slots_short (suc t) c slots h.1,
+        length-append (slot_of_bytes.spelling (slot_in make targets t au)) (flat_map slot_of_bytes.spelling (slots_in make targets (suc t) slots)),
+        length-append (slot_of_bytes.spelling au) (flat_map slot_of_bytes.spelling slots),
+      )
 
   element_short : (t : ℕ) (c : UsacConfig) (e : MuxElement) → MayChange Shorter targets t c e.slots → length (element_text (element_in make targets t e)) ≤ length (element_text e)
   element_short t c e h = omega (arith, text_length e, text_length (element_in make targets t e), slots_short t c e.slots h)
